@@ -1,0 +1,9 @@
+-- What a reading leaves behind.
+use mathlib.Core.Path.{_≡_}
+use Rattle.std.specs.declared.result.Result.{Result}
+use Rattle.std.specs.declared.result.Result.the-variants.{Ok, Err}
+
+-- an answer without a value, as a definition says it: P holds of what was read, or the fault is the same
+abbrev pub Follows : {X E : Type 0} → Result X E → Result (Unit {0}) E → (X → Type 0) → Type 0
+Follows (Ok x) r P = (r ≡ Ok tt) × P x
+Follows (Err f) r P = r ≡ Err f

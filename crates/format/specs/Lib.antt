@@ -1,0 +1,4 @@
+pub mod Faults
+pub mod Walk
+pub mod Encode
+pub mod Answers

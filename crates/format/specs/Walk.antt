@@ -1,0 +1,106 @@
+-- Reading a file field by field: each field is checked as soon as it is taken.
+use mathlib.Core.Path.{_≡_}
+use mathlib.Core.Bool.{cond}
+use mathlib.Core.List.{List, [], _∷_, _++_}
+use Prim.Native.Nat.{ℕ, zero, suc, _+_, _*_}
+use lib.Dec.{leb, ltb}
+use lib.ListN.{length, take, drop}
+use lib.IntN.{ℤ}
+use mir.Val.{toZ}
+use mir.Syntax.{w32}
+use Rattle.std.specs.declared.result.Result.{Result}
+use Rattle.std.specs.declared.result.Result.the-variants.{Ok, Err}
+use Rattle.table.specs.System.{System}
+use Rattle.table.specs.declared.parts.State.{State}
+use Rattle.table.specs.declared.parts.Link.{Link}
+use Rattle.format.specs.declared.faults.ByteFault.{ByteFault}
+use Rattle.format.specs.declared.faults.StatesFault.{StatesFault}
+use Rattle.format.specs.declared.faults.StatesFault.the-variants.{Cut as StatesCut, Count as StatesCount, Sort}
+use Rattle.format.specs.declared.faults.LinksFault.{LinksFault}
+use Rattle.format.specs.declared.faults.LinksFault.the-variants.{Cut as LinksCut, Count as LinksCount, Source, Label, Target}
+use Rattle.format.specs.declared.faults.TableFault.{TableFault}
+use Rattle.format.specs.declared.faults.TableFault.the-variants.{States, Links, After}
+
+-- the number that bytes write, the lowest first
+abbrev pub numeral : List ℕ → ℕ
+numeral [] = 0
+numeral (b ∷ bs) = b + 256 * numeral bs
+
+-- go on with what was read, or pass the fault up a layer
+abbrev pub andThen : {X Y E F : Type 0} → (E → F) → Result X E → (X → Result Y F) → Result Y F
+andThen up (Ok x) next = next x
+andThen up (Err e) next = Err (up e)
+
+-- the field of some bytes at an offset
+abbrev pub fieldAt : ℕ → List ℕ → ℕ → ℕ → Result ℕ ByteFault
+fieldAt width bytes at item =
+    cond (leb (at + width) (length bytes)) (Ok (numeral (take width (drop at bytes)))) (Err (record { place = record { offset = at; item = item } }))
+
+-- where such a field begins, if it is whole
+abbrev pub startOf : ℕ → List ℕ → ℕ → ℕ → Result ℕ ByteFault
+startOf width bytes at item = cond (leb (at + width) (length bytes)) (Ok at) (Err (record { place = record { offset = at; item = item } }))
+
+-- four bytes in two's complement
+abbrev pub signedOf : Result ℕ ByteFault → Result ℤ ByteFault
+signedOf r = andThen (λ f. f) r (λ v. Ok (toZ w32 v))
+
+-- a cursor goes past a field that is whole
+abbrev pub advanced : {X Y : Type 0} → Result X Y → ℕ → ℕ → ℕ
+advanced (Ok x) at width = at + width
+advanced (Err f) at width = at
+
+-- a state: sort and output
+abbrev pub stateAt : List ℕ → ℕ → ℕ → Result State StatesFault
+stateAt bytes at item =
+    andThen StatesCut (fieldAt 1 bytes at item) (λ sort.
+    cond (ltb 3 sort) (Err (Sort (record { offset = at; item = item })))
+    (andThen StatesCut (fieldAt 2 bytes (at + 1) item) (λ output.
+    Ok (record { sort = sort; output = output }))))
+
+-- so many states more, from an offset and an item on, behind those that were read
+abbrev pub statesFrom : List ℕ → ℕ → ℕ → List State → ℕ → Result (List State) StatesFault
+statesFrom bytes at item states zero = Ok states
+statesFrom bytes at item states (suc left) = andThen (λ f. f) (stateAt bytes at item) (λ s. statesFrom bytes (at + 3) (item + 1) (states ++ (s ∷ [])) left)
+
+abbrev pub statesSection : List ℕ → Result (List State) StatesFault
+statesSection bytes =
+    andThen StatesCut (fieldAt 2 bytes 0 0) (λ count.
+    cond (ltb 1024 count) (Err (StatesCount (record { offset = 0; item = 0 })))
+    (statesFrom bytes 2 1 [] count))
+
+-- a link among n states: source, label, weight and target
+abbrev pub linkAt : ℕ → List ℕ → ℕ → ℕ → Result Link LinksFault
+linkAt n bytes at item =
+    andThen LinksCut (fieldAt 2 bytes at item) (λ source.
+    cond (leb n source) (Err (Source (record { offset = at; item = item })))
+    (andThen LinksCut (fieldAt 1 bytes (at + 2) item) (λ label.
+    cond (ltb 63 label) (Err (Label (record { offset = at + 2; item = item })))
+    (andThen LinksCut (signedOf (fieldAt 4 bytes (at + 3) item)) (λ weight.
+    andThen LinksCut (fieldAt 2 bytes (at + 7) item) (λ target.
+    cond (leb n target) (Err (Target (record { offset = at + 7; item = item })))
+    (Ok (record { source = source; label = label; weight = weight; target = target }))))))))
+
+abbrev pub linksFrom : ℕ → List ℕ → ℕ → ℕ → List Link → ℕ → Result (List Link) LinksFault
+linksFrom n bytes at item links zero = Ok links
+linksFrom n bytes at item links (suc left) = andThen (λ f. f) (linkAt n bytes at item) (λ k. linksFrom n bytes (at + 9) (item + 1) (links ++ (k ∷ [])) left)
+
+abbrev pub linksSection : ℕ → List ℕ → ℕ → Result (List Link) LinksFault
+linksSection n bytes at =
+    andThen LinksCut (fieldAt 2 bytes at 0) (λ count.
+    cond (ltb 4096 count) (Err (LinksCount (record { offset = at; item = 0 })))
+    (linksFrom n bytes (at + 2) 1 [] count))
+
+-- where the states end, and the links
+abbrev pub statesEnd : ℕ → ℕ
+statesEnd n = 2 + 3 * n
+
+abbrev pub linksEnd : ℕ → ℕ → ℕ
+linksEnd n m = statesEnd n + 2 + 9 * m
+
+-- the states, the links, and nothing after them
+abbrev pub decode : List ℕ → Result System TableFault
+decode bytes =
+    andThen States (statesSection bytes) (λ states.
+    andThen Links (linksSection (length states) bytes (statesEnd (length states))) (λ links.
+    cond (ltb (linksEnd (length states) (length links)) (length bytes)) (Err (After (linksEnd (length states) (length links))))
+    (Ok (record { states = states; links = links }))))

@@ -1,0 +1,104 @@
+//! The layer of bytes: fields of one, two and four bytes, the lowest byte first.
+ghost use mathlib.Core.Path.{_≡_};
+ghost use Prim.Native.Nat.{_+_, _≤_};
+ghost use lib.ListN.{length};
+ghost use mir.Syntax.{w32};
+ghost use mir.Val.{toZ};
+ghost use Rattle.format.specs.Walk.{fieldAt, startOf, signedOf, advanced};
+use crate::faults::ByteFault;
+use crate::faults::Place;
+
+/// A place in a file, and the item that its next field belongs to.
+#[derive(Drop)]
+pub struct Cursor<'a> {
+    bytes: &'a [u8],
+    offset: usize,
+    item: u16,
+}
+
+impl<'a> Cursor<'a> {
+    pub fn new(bytes: &'a [u8]) -> Cursor<'a>
+        ensures bytes { λ r. ⌜ now (r .bytes) ≡ now (bytes .entry) ⌝ }
+        ensures start { λ r. ⌜ (r .offset ≡ 0) × (r .item ≡ 0) ⌝ }
+    {
+        Cursor {
+            bytes,
+            offset: 0,
+            item: 0,
+        }
+    }
+
+    /// The place of the next field.
+    pub fn place(&self) -> Place
+        ensures { λ r. ⌜ r ≡ record { offset = now (self .entry) .offset; item = now (self .entry) .item } ⌝ }
+    {
+        Place {
+            offset: self.offset,
+            item: self.item,
+        }
+    }
+
+    /// How many bytes the file has.
+    pub fn len(&self) -> usize
+        ensures { λ r. ⌜ r ≡ length (now (now (self .entry) .bytes)) ⌝ }
+    {
+        self.bytes.len()
+    }
+
+    /// The next field belongs to this item.
+    pub fn begin(&mut self, item: u16)
+        ensures item { λ _. ⌜ now (self .exit) .item ≡ item ⌝ }
+        ensures same { λ _. ⌜ (now (now (self .exit) .bytes) ≡ now (now (self .entry) .bytes)) × (now (self .exit) .offset ≡ now (self .entry) .offset) ⌝ }
+    {
+        self.item = item;
+    }
+
+    // Where a field of so many bytes begins; the cursor goes past it.
+    fn field(&mut self, width: usize) -> Result<usize, ByteFault>
+        ensures start { λ r. ⌜ r ≡ startOf width (now (now (self .entry) .bytes)) (now (self .entry) .offset) (now (self .entry) .item) ⌝ }
+        ensures offset { λ r. ⌜ now (self .exit) .offset ≡ advanced r (now (self .entry) .offset) width ⌝ }
+        ensures same { λ _. ⌜ (now (now (self .exit) .bytes) ≡ now (now (self .entry) .bytes)) × (now (self .exit) .item ≡ now (self .entry) .item) ⌝ }
+    {
+        let start = self.offset;
+        if start > self.bytes.len() || self.bytes.len() - start < width {
+            return Err(ByteFault {
+                place: self.place(),
+            });
+        }
+        self.offset = start + width;
+        Ok(start)
+    }
+
+    pub fn take_u8(&mut self) -> Result<u8, ByteFault>
+        ensures value { λ r. ⌜ r ≡ fieldAt 1 (now (now (self .entry) .bytes)) (now (self .entry) .offset) (now (self .entry) .item) ⌝ }
+        ensures offset { λ r. ⌜ now (self .exit) .offset ≡ advanced r (now (self .entry) .offset) 1 ⌝ }
+        ensures same { λ _. ⌜ (now (now (self .exit) .bytes) ≡ now (now (self .entry) .bytes)) × (now (self .exit) .item ≡ now (self .entry) .item) ⌝ }
+    {
+        let at = self.field(1)?;
+        Ok(self.bytes[at])
+    }
+
+    pub fn take_u16(&mut self) -> Result<u16, ByteFault>
+        ensures value { λ r. ⌜ r ≡ fieldAt 2 (now (now (self .entry) .bytes)) (now (self .entry) .offset) (now (self .entry) .item) ⌝ }
+        ensures offset { λ r. ⌜ now (self .exit) .offset ≡ advanced r (now (self .entry) .offset) 2 ⌝ }
+        ensures same { λ _. ⌜ (now (now (self .exit) .bytes) ≡ now (now (self .entry) .bytes)) × (now (self .exit) .item ≡ now (self .entry) .item) ⌝ }
+    {
+        let at = self.field(2)?;
+        Ok(u16::from_le_bytes([self.bytes[at], self.bytes[at + 1]]))
+    }
+
+    pub fn take_i32(&mut self) -> Result<i32, ByteFault>
+        ensures value { λ r. ⌜ r ≡ signedOf (fieldAt 4 (now (now (self .entry) .bytes)) (now (self .entry) .offset) (now (self .entry) .item)) ⌝ }
+        ensures offset { λ r. ⌜ now (self .exit) .offset ≡ advanced r (now (self .entry) .offset) 4 ⌝ }
+        ensures same { λ _. ⌜ (now (now (self .exit) .bytes) ≡ now (now (self .entry) .bytes)) × (now (self .exit) .item ≡ now (self .entry) .item) ⌝ }
+    {
+        let at = self.field(4)?;
+        let bytes = [
+            self.bytes[at],
+            self.bytes[at + 1],
+            self.bytes[at + 2],
+            self.bytes[at + 3],
+        ];
+        Ok(u32::from_le_bytes(bytes).cast_signed())
+    }
+}

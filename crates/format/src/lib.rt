@@ -1,0 +1,4 @@
+//! Files: what a table is written as, and read from.
+mod cursor;
+pub mod faults;
+pub mod reading;
