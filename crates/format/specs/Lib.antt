@@ -2,3 +2,4 @@ pub mod Faults
 pub mod Walk
 pub mod Encode
 pub mod Answers
+pub mod Theorems

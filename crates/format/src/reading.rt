@@ -1,17 +1,21 @@
 //! Reading: the sections of states and links, each field checked as soon as it is taken, and the whole file.
 ghost use mathlib.Core.Path.{_≡_};
 ghost use mathlib.Core.List.{[]};
-ghost use Prim.Native.Nat.{_+_, _≤_};
+ghost use Prim.Native.Nat.{_+_, _*_, _≤_};
 ghost use lib.ListN.{length};
 ghost use Rattle.std.specs.Vec.{made};
+ghost use Rattle.table.specs.System.{size};
 ghost use Rattle.table.specs.Charts.{systemOf, noSystem};
-ghost use Rattle.format.specs.Walk.{stateAt, statesFrom, statesSection, linkAt, linksFrom, linksSection, statesEnd, linksEnd};
-ghost use Rattle.format.specs.Answers.{Follows};
+ghost use Rattle.format.specs.Walk.{stateAt, statesFrom, statesSection, linkAt, linksFrom, linksSection, statesEnd, decode};
+ghost use Rattle.format.specs.Answers.{Follows, answerOf, systemIn};
 use crate::cursor::Cursor;
 use crate::faults::LinksFault;
 use crate::faults::LinksFromBytes;
 use crate::faults::StatesFault;
 use crate::faults::StatesFromBytes;
+use crate::faults::TableFault;
+use crate::faults::TableFromLinks;
+use crate::faults::TableFromStates;
 use table::chart::Chart;
 use table::parts::Link;
 use table::parts::MAX_LINKS;
@@ -77,4 +81,77 @@ fn read_states(cursor: &mut Cursor, chart: &mut Chart, count: u16) -> Result<(),
         let _ = chart.add_state(state);
     }
     Ok(())
+}
+
+// So many links, into a chart that has states and no links.
+fn read_links(cursor: &mut Cursor, chart: &mut Chart, count: u16) -> Result<(), LinksFault>
+    requires few { ⌜ count ≤ 4096 ⌝ }
+    requires none { ⌜ systemOf (now chart) .links ≡ [] ⌝ }
+    ensures { λ r. ⌜ Follows (linksFrom (size (systemOf (now (chart .entry)))) (now (now (cursor .entry) .bytes)) (now (cursor .entry) .offset) 1 [] count) r (λ links. (systemOf (now (chart .exit)) ≡ record { states = systemOf (now (chart .entry)) .states; links = links }) × (now (cursor .exit) .offset ≡ now (cursor .entry) .offset + 9 * length links)) ⌝ }
+{
+    let size = chart.states().len();
+    for index in 0..count {
+        cursor.begin(index + 1);
+        let link = read_link(cursor, size)?;
+        // checked already, so it is not refused
+        let _ = chart.add_link(link);
+    }
+    Ok(())
+}
+
+// The section of states, into a chart that has none.
+fn states_section(cursor: &mut Cursor, chart: &mut Chart) -> Result<(), StatesFault>
+    requires start { ⌜ (now cursor .offset ≡ 0) × (now cursor .item ≡ 0) ⌝ }
+    requires none { ⌜ systemOf (now chart) ≡ noSystem ⌝ }
+    ensures { λ r. ⌜ Follows (statesSection (now (now (cursor .entry) .bytes))) r (λ states. (systemOf (now (chart .exit)) ≡ record { states = states; links = [] }) × (now (cursor .exit) .offset ≡ statesEnd (length states)) × (now (now (cursor .exit) .bytes) ≡ now (now (cursor .entry) .bytes))) ⌝ }
+{
+    let place = cursor.place();
+    let count = cursor.take_u16()?;
+    if count > MAX_STATES {
+        return Err(StatesFault::Count(place));
+    }
+    read_states(cursor, chart, count)
+}
+
+// The section of links, into a chart that has states and no links.
+fn links_section(cursor: &mut Cursor, chart: &mut Chart) -> Result<(), LinksFault>
+    requires start { ⌜ now cursor .item ≡ 0 ⌝ }
+    requires none { ⌜ systemOf (now chart) .links ≡ [] ⌝ }
+    ensures { λ r. ⌜ Follows (linksSection (size (systemOf (now (chart .entry)))) (now (now (cursor .entry) .bytes)) (now (cursor .entry) .offset)) r (λ links. (systemOf (now (chart .exit)) ≡ record { states = systemOf (now (chart .entry)) .states; links = links }) × (now (cursor .exit) .offset ≡ now (cursor .entry) .offset + 2 + 9 * length links)) ⌝ }
+{
+    let place = cursor.place();
+    let count = cursor.take_u16()?;
+    if count > MAX_LINKS {
+        return Err(LinksFault::Count(place));
+    }
+    read_links(cursor, chart, count)
+}
+
+// The whole file, into a chart that has nothing.
+fn read_file(bytes: &[u8], chart: &mut Chart) -> Result<(), TableFault>
+    requires { ⌜ systemOf (now chart) ≡ noSystem ⌝ }
+    ensures { λ r. ⌜ Follows (decode (now (bytes .entry))) r (λ t. systemOf (now (chart .exit)) ≡ t) ⌝ }
+{
+    let mut cursor = Cursor::new(bytes);
+    states_section(&mut cursor, chart)?;
+    cursor.begin(0);
+    links_section(&mut cursor, chart)?;
+    let end = cursor.place().offset;
+    if end < bytes.len() {
+        return Err(TableFault::After { offset: end });
+    }
+    Ok(())
+}
+
+/// Reads a file: its states and links are then what the chart holds. A refused file leaves the chart empty.
+pub fn read(bytes: &[u8], chart: &mut Chart) -> Result<(), TableFault>
+    ensures answer { λ r. ⌜ r ≡ answerOf (decode (now (bytes .entry))) ⌝ }
+    ensures after { λ _. ⌜ systemOf (now (chart .exit)) ≡ systemIn (decode (now (bytes .entry))) ⌝ }
+{
+    chart.clear();
+    let answer = read_file(bytes, chart);
+    if answer.is_err() {
+        chart.clear();
+    }
+    answer
 }

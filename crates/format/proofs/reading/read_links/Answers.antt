@@ -1,0 +1,59 @@
+use borrow.Author.Needs.{needs}
+use native.Mathlib.Omega.{arith}
+use mathlib.Core.Path.{_≡_, refl, sym, ap, _∙_}
+use mathlib.Core.List.{[], _∷_, _++_}
+use Prim.Native.Nat.{ℕ, _+_, _-_, _*_}
+use lib.ListN.{length}
+use Rattle.std.specs.declared.result.Result.the-variants.{Ok, Err}
+use Rattle.std.proofs.shelf.Lists.{length-push}
+use Rattle.std.proofs.shelf.Results.{err-from-errBy}
+use Rattle.table.specs.System.{System, size}
+use Rattle.table.specs.Charts.{systemOf, withLink}
+use Rattle.format.specs.Walk.{linkAt, linksFrom}
+use Rattle.format.proofs.Fields.{at-place}
+use Rattle.format.proofs.Sections.{links-step, links-stop, link-low, link-added, follows-stop}
+use Rattle.format.proofs.reading.read_links.Needs as need
+
+pub returns-in-Break-link : need.returns-in-Break-link
+returns-in-Break-link c =
+    let p = c .in-Break-link .ensures tt in
+    let b = c .begin .ensures in
+    let inv = c .loop-index .inv in
+    let n : ℕ = size (systemOf (c .args .chart .now)) in
+    let bytes = c .args .cursor .now .bytes .now in
+    let at = c .loop-index .cursor .offset in
+    let f = c .in-Break-link .field-0 .0 in
+    let e = err-from-errBy (c .from-residual .result) (c .from-residual .ensures .1) in
+    let many : length (c .states-size .result .now) ≡ n = ap (λ ss. length ss) (c .states-size .ensures) in
+    let read : Err f ≡ linkAt n bytes at (c .loop-index .index + 1) = p .value ∙ ap (λ m. linkAt m (c .begin .last .self .bytes .now) (c .begin .last .self .offset) (c .begin .last .self .item)) many ∙ at-place (linkAt n) (b .same .0 ∙ inv .4) (b .same .1) (b .item) in
+    follows-stop (linksFrom n bytes (c .args .cursor .now .offset) 1 [] (c .args .count)) (c .from-residual .result) _ f
+    (sym (inv .0) ∙ links-stop n bytes at (c .loop-index .index + 1) (systemOf (c .loop-index .chart) .links) (c .args .count - c .loop-index .index) (c .args .count - (c .loop-index .index + 1)) f (omega arith) (sym read))
+    (e .1 ∙ ap Err (e .2))
+
+pub loop-index-again : need.loop-index-again
+loop-index-again c =
+    let p = c .in-Continue-link .ensures tt in
+    let b = c .begin .ensures in
+    let inv = c .loop-index .inv in
+    let n : ℕ = size (systemOf (c .args .chart .now)) in
+    let bytes = c .args .cursor .now .bytes .now in
+    let at = c .loop-index .cursor .offset in
+    let i = c .loop-index .index in
+    let k = c .in-Continue-link .link in
+    let t : System = systemOf (c .loop-index .chart) in
+    let t′ : System = systemOf (c .add-link .last .self) in
+    let same = b .same .0 ∙ inv .4 in
+    let many : length (c .states-size .result .now) ≡ n = ap (λ ss. length ss) (c .states-size .ensures) in
+    let read : Ok k ≡ linkAt n bytes at (i + 1) = p .value ∙ ap (λ m. linkAt m (c .begin .last .self .bytes .now) (c .begin .last .self .offset) (c .begin .last .self .item)) many ∙ at-place (linkAt n) same (b .same .1) (b .item) in
+    let next : c .read-link .last .cursor .offset ≡ at + 9 = p .offset ∙ ap (λ o. o + 9) (b .same .1) in
+    let low = link-low n bytes at (i + 1) k (sym read) in
+    let states : size t ≡ n = ap (λ ss. length ss) (inv .3) in
+    let added : t′ ≡ withLink t k = link-added t t′ k (c .add-link .result) (omega (arith, inv .2)) (omega (arith, states, low .0), low .1, omega (arith, states, low .2)) (c .add-link .ensures .answer) (c .add-link .ensures .after) in (
+      ap (λ o. linksFrom n bytes o (i + 1 + 1) (t′ .links) (c .args .count - (i + 1))) next
+          ∙ ap (λ u. linksFrom n bytes (at + 9) (i + 1 + 1) (u .links) (c .args .count - (i + 1))) added
+          ∙ sym (links-step n bytes at (i + 1) (t .links) (c .args .count - i) (c .args .count - (i + 1)) k (omega arith) (sym read)) ∙ inv .0,
+      omega (arith, next, inv .1),
+      ap (λ u. length (u .links)) added ∙ length-push (t .links) k ∙ ap (λ m. m + 1) (inv .2),
+      ap (λ u. u .states) added ∙ inv .3,
+      p .bytes ∙ same,
+    )
