@@ -1,5 +1,9 @@
 -- What the caller reads from a fault: the refusal, the place of the field, and the section.
+use mathlib.Core.List.{List, _++_}
 use Prim.Native.Nat.{ℕ}
+use lib.Chars.{codes}
+use Rattle.std.specs.Written.{decimal}
+use Rattle.table.specs.Refusals.{numberOf}
 use Rattle.table.specs.declared.parts.Refusal.{Refusal}
 use Rattle.table.specs.declared.parts.Refusal.the-variants.{Full, BadSort, NoSuchNumber, BadLabel, CutShort, TrailingBytes}
 use Rattle.format.specs.declared.faults.Place.{Place}
@@ -50,3 +54,9 @@ abbrev pub refusalOf : TableFault → Refusal
 refusalOf (States f) = statesRefusal f
 refusalOf (Links f) = linksRefusal f
 refusalOf (After offset) = TrailingBytes
+
+-- the line that a user sees, without its line feed
+abbrev pub lineOf : TableFault → List ℕ
+lineOf f =
+    codes "refused " ++ (decimal (numberOf (refusalOf f)) ++ (codes " byte " ++ (decimal (tablePlace f .offset)
+    ++ (codes " section " ++ (decimal (sectionOf f) ++ (codes " item " ++ decimal (tablePlace f .item)))))))

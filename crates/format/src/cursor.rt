@@ -1,9 +1,5 @@
 //! The layer of bytes: fields of one, two and four bytes, the lowest byte first.
 ghost use mathlib.Core.Path.{_≡_};
-ghost use Prim.Native.Nat.{_+_, _≤_};
-ghost use lib.ListN.{length};
-ghost use mir.Syntax.{w32};
-ghost use mir.Val.{toZ};
 ghost use Rattle.format.specs.Walk.{fieldAt, startOf, signedOf, advanced};
 use crate::faults::ByteFault;
 use crate::faults::Place;
@@ -36,13 +32,6 @@ impl<'a> Cursor<'a> {
             offset: self.offset,
             item: self.item,
         }
-    }
-
-    /// How many bytes the file has.
-    pub fn len(&self) -> usize
-        ensures { λ r. ⌜ r ≡ length (now (now (self .entry) .bytes)) ⌝ }
-    {
-        self.bytes.len()
     }
 
     /// The next field belongs to this item.

@@ -1,9 +1,11 @@
 //! What can be wrong with a file, layer by layer: bytes, section, table.
 ghost use mathlib.Core.Path.{_≡_};
+ghost use Rattle.std.specs.declared.option.Option.the-variants.{Some};
 ghost use Rattle.format.specs.declared.faults.StatesFault.the-variants.{Cut as StatesCut};
 ghost use Rattle.format.specs.declared.faults.LinksFault.the-variants.{Cut as LinksCut};
 ghost use Rattle.format.specs.declared.faults.TableFault.the-variants.{States, Links};
-ghost use Rattle.format.specs.Faults.{statesPlace, linksPlace, refusalOf, tablePlace, sectionOf};
+ghost use Rattle.format.specs.Faults.{statesPlace, linksPlace, refusalOf, tablePlace, sectionOf, lineOf};
+use std::fmt;
 use table::parts::Refusal;
 
 /// Where a field stands: the offset of its first byte, and its item, from 1; 0 is a count.
@@ -142,5 +144,18 @@ impl TableFault {
             TableFault::Links(_) => 2,
             TableFault::After { .. } => 3,
         }
+    }
+}
+
+/// One line, as `refused 7 byte 2 section 2 item 0`.
+pub impl fmt::Display for TableFault as TableFaultDisplay {
+    ghost shown = { λ f. Some (lineOf f) };
+
+    fn fmt<W: fmt::Write>(&self, f: &mut fmt::Formatter<W>) -> fmt::Result {
+        let number = self.refusal().number();
+        let offset = self.place().offset;
+        let section = self.section();
+        let item = self.place().item;
+        write!(f, "refused {number} byte {offset} section {section} item {item}")
     }
 }

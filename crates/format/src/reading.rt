@@ -22,6 +22,9 @@ use table::parts::MAX_LINKS;
 use table::parts::MAX_STATES;
 use table::parts::State;
 
+/// The bytes of the longest file that is accepted: 1,024 states and 4,096 links.
+pub const LONGEST_FILE: usize = 39_940;
+
 // The state at the cursor.
 fn read_state(cursor: &mut Cursor) -> Result<State, StatesFault>
     ensures value { λ r. ⌜ r ≡ stateAt (now (now (cursor .entry) .bytes)) (now (cursor .entry) .offset) (now (cursor .entry) .item) ⌝ }

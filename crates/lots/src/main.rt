@@ -1,0 +1,6 @@
+//! Reads a file for the pile `lots` from standard input and prints what is in it.
+use std::error::AnyError;
+
+fn main(rt: LibcRuntime) -> Result<(), AnyError> {
+    console::run(&rt)
+}
