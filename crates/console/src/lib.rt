@@ -47,14 +47,18 @@ pub fn answer_file(heap: Global, bytes: &[u8]) -> Result<Answer, AllocError>
     }
 }
 
-/// Reads a file from standard input and prints the answer; a refused file is an error.
-pub fn run(rt: &LibcRuntime) -> Result<(), AnyError> {
-    // what lies past the longest file changes no answer
+// The answer to the file on standard input. What lies past the longest file changes no answer.
+fn answer_input(rt: &LibcRuntime) -> Result<Answer, AnyError> {
     let mut bytes = Vec::new(rt.alloc());
     let limit = LONGEST_FILE as u64 + 1;
     rt.stdin().take(limit).read_to_end(&mut bytes)?;
-    let answer = answer_file(rt.alloc(), bytes.as_slice())?;
-    rt.print(answer.text.as_str())?;
+    Ok(answer_file(rt.alloc(), bytes.as_slice())?)
+}
+
+/// Reads a file from standard input and prints the answer; a refused file is an error.
+pub fn run(rt: &LibcRuntime) -> Result<(), AnyError> {
+    let answer = rt.report(answer_input(rt))?;
+    rt.report(rt.print(answer.text.as_str()))?;
     if answer.accepted {
         Ok(())
     } else {

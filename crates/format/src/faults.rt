@@ -156,6 +156,9 @@ pub impl fmt::Display for TableFault as TableFaultDisplay {
         let offset = self.place().offset;
         let section = self.section();
         let item = self.place().item;
-        write!(f, "refused {number} byte {offset} section {section} item {item}")
+        write!(
+            f,
+            "refused {number} byte {offset} section {section} item {item}"
+        )
     }
 }
