@@ -7,8 +7,8 @@ use Rattle.std.specs.Written.{decimal}
 use Rattle.std.specs.declared.result.Result.{Result}
 use Rattle.std.specs.declared.result.Result.the-variants.{Ok, Err}
 use Rattle.table.specs.System.{System, size}
-use Rattle.format.specs.Faults.{lineOf}
-use Rattle.format.specs.declared.faults.TableFault.{TableFault}
+use Rattle.fault.specs.Faults.{lineOf}
+use Rattle.fault.specs.declared.TableFault.{TableFault}
 
 -- how many states and links there are, or why the file is refused; one line
 abbrev pub textOf : Result System TableFault → List ℕ

@@ -5,7 +5,7 @@ ghost use Rattle.std.specs.Results.{isOk};
 ghost use Rattle.std.specs.Vec.{made};
 ghost use Rattle.format.specs.Walk.{decode};
 ghost use Rattle.console.specs.Answer.{textOf};
-use format::faults::TableFaultDisplay;
+use fault::TableFaultDisplay;
 use format::reading::LONGEST_FILE;
 use format::reading::read;
 use std::alloc::AllocError;

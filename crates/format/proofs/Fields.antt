@@ -11,7 +11,7 @@ use Rattle.std.specs.declared.result.Result.the-variants.{Ok, Err}
 use Rattle.std.proofs.shelf.Lists.{drop-more}
 use Rattle.std.proofs.shelf.Tests.{leb-true, le-leb}
 use Rattle.format.specs.Walk.{numeral, fieldAt, startOf}
-use Rattle.format.specs.declared.faults.ByteFault.{ByteFault}
+use Rattle.fault.specs.declared.ByteFault.{ByteFault}
 
 short : ℕ → ℕ → ByteFault
 short at item = record { place = record { offset = at; item = item } }

@@ -1,3 +1,8 @@
+mod Accepted
+mod Answered
+mod Bytes
 mod Fields
+mod Items
 mod Links
+mod Longest
 mod Sections

@@ -16,21 +16,11 @@ use Rattle.table.specs.declared.parts.Link.{Link}
 use Rattle.table.specs.declared.parts.Refusal.{Refusal}
 use Rattle.format.specs.Answers.{Follows}
 use Rattle.format.specs.Walk.{andThen, fieldAt, signedOf, stateAt, statesFrom, linkAt, linksFrom}
-use Rattle.format.specs.declared.faults.StatesFault.{StatesFault}
-use Rattle.format.specs.declared.faults.LinksFault.{LinksFault}
-
--- what was read before the last step, and the last step
-pub then-ok : {X Y E F : Type 0} (up : E → F) (r : Result X E) (next : X → Result Y F) (y : Y) → andThen up r next ≡ Ok y → (x : X) × (r ≡ Ok x) × (next x ≡ Ok y)
-then-ok up (Ok x) next y e = (x, refl, e)
-then-ok up (Err f) next y e = let z : _≡_ {A = ℕ} 0 1 = cc in absurd (omega arith)
-
-pub ok-same : {X E : Type 0} (x y : X) → _≡_ {A = Result X E} (Ok x) (Ok y) → x ≡ y
-ok-same x y e = cc
-
--- a test that refuses has not refused
-pub not-refused : {Y F : Type 0} (b : Bool) (f : F) (r : Result Y F) (y : Y) → cond b (Err f) r ≡ Ok y → (b ≡ false) × (r ≡ Ok y)
-not-refused true f r y e = let z : _≡_ {A = ℕ} 0 1 = cc in absurd (omega arith)
-not-refused false f r y e = (refl, e)
+use Rattle.fault.specs.declared.StatesFault.{StatesFault}
+use Rattle.fault.specs.declared.StatesFault.the-variants.{Cut as StatesCut}
+use Rattle.fault.specs.declared.LinksFault.{LinksFault}
+use Rattle.fault.specs.declared.LinksFault.the-variants.{Cut as LinksCut}
+use Rattle.format.proofs.Bytes.{passed, first-read}
 
 module _ (bytes : List ℕ) (at item : ℕ) where
   pub states-step : (acc : List State) (n k : ℕ) (s : State) → n ≡ suc k → stateAt bytes at item ≡ Ok s → statesFrom bytes at item acc n ≡ statesFrom bytes (at + 3) (item + 1) (acc ++ (s ∷ [])) k
@@ -41,12 +31,11 @@ module _ (bytes : List ℕ) (at item : ℕ) where
 
   pub state-low : (s : State) → stateAt bytes at item ≡ Ok s → s .sort < 4
   state-low s e =
-      let a = then-ok _ (fieldAt 1 bytes at item) _ s e in
-      let b = not-refused (ltb 3 (a .0)) _ _ s (a .2) in
-      let d = then-ok _ (fieldAt 2 bytes (at + 1) item) _ s (b .1) in
-      let q : a .0 ≡ s .sort = ap (λ u. u .sort) (ok-same _ s (d .2)) in
-      let l = ltb-false 3 (a .0) (b .0) in
-      omega arith
+      first-read StatesCut (fieldAt 1 bytes at item) _ s e λ sort a e.
+      passed (ltb 3 sort) _ _ s e λ low e.
+      first-read StatesCut (fieldAt 2 bytes (at + 1) item) _ s e λ output b e.
+      let is : record { sort = sort; output = output } ≡ s = cc in
+      omega (arith, ap (λ u. u .sort) is, ltb-false 3 sort low)
 
 -- a state that was read is not refused
 pub state-added : (t t′ : System) (s : State) (r : Result ℕ Refusal) → size t < 1024 → s .sort < 4 → r ≡ stateAnswer t s → t′ ≡ afterwards r t (withState t s) → t′ ≡ withState t s
@@ -63,18 +52,18 @@ module _ (n : ℕ) (bytes : List ℕ) (at item : ℕ) where
 
   pub link-low : (l : Link) → linkAt n bytes at item ≡ Ok l → (l .source < n) × (l .label ≤ 63) × (l .target < n)
   link-low l e =
-      let a = then-ok _ (fieldAt 2 bytes at item) _ l e in
-      let b = not-refused (leb n (a .0)) _ _ l (a .2) in
-      let c = then-ok _ (fieldAt 1 bytes (at + 2) item) _ l (b .1) in
-      let d = not-refused (ltb 63 (c .0)) _ _ l (c .2) in
-      let w = then-ok _ (signedOf (fieldAt 4 bytes (at + 3) item)) _ l (d .1) in
-      let g = then-ok _ (fieldAt 2 bytes (at + 7) item) _ l (w .2) in
-      let h = not-refused (leb n (g .0)) _ _ l (g .2) in
-      let e = ok-same _ l (h .1) in
-      let source : a .0 ≡ l .source = ap (λ k. k .source) e in
-      let label : c .0 ≡ l .label = ap (λ k. k .label) e in
-      let target : g .0 ≡ l .target = ap (λ k. k .target) e in
-      (omega (arith, source, leb-false n (a .0) (b .0)), omega (arith, label, ltb-false 63 (c .0) (d .0)), omega (arith, target, leb-false n (g .0) (h .0)))
+      first-read LinksCut (fieldAt 2 bytes at item) _ l e λ source a e.
+      passed (leb n source) _ _ l e λ sn e.
+      first-read LinksCut (fieldAt 1 bytes (at + 2) item) _ l e λ label b e.
+      passed (ltb 63 label) _ _ l e λ low e.
+      first-read LinksCut (signedOf (fieldAt 4 bytes (at + 3) item)) _ l e λ weight c e.
+      first-read LinksCut (fieldAt 2 bytes (at + 7) item) _ l e λ target d e.
+      passed (leb n target) _ _ l e λ tn e.
+      let is : record { source = source; label = label; weight = weight; target = target } ≡ l = cc in (
+        omega (arith, ap (λ k. k .source) is, leb-false n source sn),
+        omega (arith, ap (λ k. k .label) is, ltb-false 63 label low),
+        omega (arith, ap (λ k. k .target) is, leb-false n target tn),
+      )
 
 -- a link that was read is not refused
 pub link-added : (t t′ : System) (l : Link) (r : Result ℕ Refusal) → length (t .links) < 4096 → (l .source < size t) × (l .label ≤ 63) × (l .target < size t) → r ≡ linkAnswer t l → t′ ≡ afterwards r t (withLink t l) → t′ ≡ withLink t l

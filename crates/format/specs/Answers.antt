@@ -4,7 +4,7 @@ use Rattle.std.specs.declared.result.Result.{Result}
 use Rattle.std.specs.declared.result.Result.the-variants.{Ok, Err}
 use Rattle.table.specs.System.{System}
 use Rattle.table.specs.Charts.{noSystem}
-use Rattle.format.specs.declared.faults.TableFault.{TableFault}
+use Rattle.fault.specs.declared.TableFault.{TableFault}
 
 -- an answer without a value, as a definition says it: P holds of what was read, or the fault is the same
 abbrev pub Follows : {X E : Type 0} → Result X E → Result (Unit {0}) E → (X → Type 0) → Type 0

@@ -1,5 +1,3 @@
-pub mod Faults
 pub mod Walk
 pub mod Encode
 pub mod Answers
-pub mod Theorems

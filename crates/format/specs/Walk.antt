@@ -13,13 +13,13 @@ use Rattle.std.specs.declared.result.Result.the-variants.{Ok, Err}
 use Rattle.table.specs.System.{System}
 use Rattle.table.specs.declared.parts.State.{State}
 use Rattle.table.specs.declared.parts.Link.{Link}
-use Rattle.format.specs.declared.faults.ByteFault.{ByteFault}
-use Rattle.format.specs.declared.faults.StatesFault.{StatesFault}
-use Rattle.format.specs.declared.faults.StatesFault.the-variants.{Cut as StatesCut, Count as StatesCount, Sort}
-use Rattle.format.specs.declared.faults.LinksFault.{LinksFault}
-use Rattle.format.specs.declared.faults.LinksFault.the-variants.{Cut as LinksCut, Count as LinksCount, Source, Label, Target}
-use Rattle.format.specs.declared.faults.TableFault.{TableFault}
-use Rattle.format.specs.declared.faults.TableFault.the-variants.{States, Links, After}
+use Rattle.fault.specs.declared.ByteFault.{ByteFault}
+use Rattle.fault.specs.declared.StatesFault.{StatesFault}
+use Rattle.fault.specs.declared.StatesFault.the-variants.{Cut as StatesCut, Count as StatesCount, Sort}
+use Rattle.fault.specs.declared.LinksFault.{LinksFault}
+use Rattle.fault.specs.declared.LinksFault.the-variants.{Cut as LinksCut, Count as LinksCount, Source, Label, Target}
+use Rattle.fault.specs.declared.TableFault.{TableFault}
+use Rattle.fault.specs.declared.TableFault.the-variants.{States, Links, After}
 
 -- the number that bytes write, the lowest first
 abbrev pub numeral : List ℕ → ℕ

@@ -1,8 +1,8 @@
 //! The layer of bytes: fields of one, two and four bytes, the lowest byte first.
 ghost use mathlib.Core.Path.{_≡_};
 ghost use Rattle.format.specs.Walk.{fieldAt, startOf, signedOf, advanced};
-use crate::faults::ByteFault;
-use crate::faults::Place;
+use fault::ByteFault;
+use fault::Place;
 
 /// A place in a file, and the item that its next field belongs to.
 #[derive(Drop)]

@@ -1,4 +1,3 @@
 //! Files: what a table is written as, and read from.
 mod cursor;
-pub mod faults;
 pub mod reading;

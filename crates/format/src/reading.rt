@@ -1,21 +1,24 @@
 //! Reading: the sections of states and links, each field checked as soon as it is taken, and the whole file.
 ghost use mathlib.Core.Path.{_≡_};
-ghost use mathlib.Core.List.{[]};
-ghost use Prim.Native.Nat.{_+_, _*_, _≤_};
+ghost use mathlib.Core.List.{List, [], _++_};
+ghost use Prim.Native.Nat.{ℕ, _+_, _*_, _<_, _≤_};
 ghost use lib.ListN.{length};
 ghost use Rattle.std.specs.Vec.{made};
-ghost use Rattle.table.specs.System.{size};
+ghost use mathlib.Core.Logic.{_↔_};
+ghost use Rattle.std.specs.declared.result.Result.the-variants.{Ok};
+ghost use Rattle.table.specs.System.{System, size};
+ghost use Rattle.format.specs.Encode.{FileOf};
 ghost use Rattle.table.specs.Charts.{systemOf, noSystem};
 ghost use Rattle.format.specs.Walk.{stateAt, statesFrom, statesSection, linkAt, linksFrom, linksSection, statesEnd, decode};
 ghost use Rattle.format.specs.Answers.{Follows, answerOf, systemIn};
 use crate::cursor::Cursor;
-use crate::faults::LinksFault;
-use crate::faults::LinksFromBytes;
-use crate::faults::StatesFault;
-use crate::faults::StatesFromBytes;
-use crate::faults::TableFault;
-use crate::faults::TableFromLinks;
-use crate::faults::TableFromStates;
+use fault::LinksFault;
+use fault::LinksFromBytes;
+use fault::StatesFault;
+use fault::StatesFromBytes;
+use fault::TableFault;
+use fault::TableFromLinks;
+use fault::TableFromStates;
 use table::chart::Chart;
 use table::parts::Link;
 use table::parts::MAX_LINKS;
@@ -150,6 +153,8 @@ fn read_file(bytes: &[u8], chart: &mut Chart) -> Result<(), TableFault>
 pub fn read(bytes: &[u8], chart: &mut Chart) -> Result<(), TableFault>
     ensures answer { λ r. ⌜ r ≡ answerOf (decode (now (bytes .entry))) ⌝ }
     ensures after { λ _. ⌜ systemOf (now (chart .exit)) ≡ systemIn (decode (now (bytes .entry))) ⌝ }
+    ensures longest { λ _. ⌜ ((more : List ℕ) → 39940 < length (now (bytes .entry)) → decode (now (bytes .entry) ++ more) ≡ decode (now (bytes .entry))) ⌝ }
+    ensures file { λ r. ⌜ ((t : System) → ((r ≡ Ok tt) × (systemOf (now (chart .exit)) ≡ t)) ↔ FileOf t (now (bytes .entry))) ⌝ }
 {
     chart.clear();
     let answer = read_file(bytes, chart);

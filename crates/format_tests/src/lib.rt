@@ -1,8 +1,8 @@
 //! Files that are read and files that are refused.
 #[cfg(test)]
 mod tests {
-    use format::faults::TableFault;
-    use format::faults::TableFaultDisplay;
+    use fault::TableFault;
+    use fault::TableFaultDisplay;
     use format::reading::LONGEST_FILE;
     use format::reading::read;
     use std::alloc::AllocError;

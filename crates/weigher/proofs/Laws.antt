@@ -89,8 +89,8 @@ same-most (Some m) (Some n) p q e = ap Some e
 greatest-most : (u v : List ℤ) → InRange u → InRange v → valueOr (most u) (pos 2147483648) ≡ valueOr (most v) (pos 2147483648) → most u ≡ most v
 greatest-most u v p q e = same-most (most u) (most v) (most-fits u p) (most-fits v q) e
 
-pub most-over : (ws : List ℤ) (w top : ℤ) (m : Option ℤ) → m ≡ most ws → m ≡ Some top → Some (maxZ top w) ≡ most (ws ++ w ∷ [])
-most-over ws w top m e s = ap Some (omega (arith, ints, clamps)) ∙ ap (λ o. Some (larger w o)) (sym s) ∙ sym (most-push ws w m e)
+pub most-over : (ws : List ℤ) (w top : ℤ) (m : Option ℤ) → m ≡ most ws → m ≡ Some top → Some (maxZ w top) ≡ most (ws ++ w ∷ [])
+most-over ws w top m e s = ap (λ o. Some (larger w o)) (sym s) ∙ sym (most-push ws w m e)
 
 pub most-first : (ws : List ℤ) (w : ℤ) (m : Option ℤ) → m ≡ most ws → m ≡ None → Some w ≡ most (ws ++ w ∷ [])
 most-first ws w m e s = ap (λ o. Some (larger w o)) (sym s) ∙ sym (most-push ws w m e)

@@ -1,6 +1,7 @@
 //! The weighers that stand alone.
 ghost use mathlib.Core.Path.{_≡_};
 ghost use lib.IntN.{pos};
+ghost use Rattle.std.specs.Numbers.{maxZ};
 ghost use Rattle.weigher.specs.Weighers.{reach, sum, greatest, blind, most};
 ghost use Rattle.weigher.specs.Loads.{some};
 use crate::Weigher;
@@ -61,6 +62,13 @@ pub impl Weigher for Sum as SumWeigher {
     }
 }
 
+// The larger of two weights.
+fn larger(top: i32, weight: i32) -> i32
+    ensures { λ r. ⌜ r ≡ maxZ weight top ⌝ }
+{
+    if top > weight { top } else { weight }
+}
+
 pub impl Weigher for Greatest as GreatestWeigher {
     type Load = Option<i32>;
 
@@ -74,7 +82,7 @@ pub impl Weigher for Greatest as GreatestWeigher {
 
     fn add(&self, _sort: u8, _label: u8, load: Option<i32>, weight: i32) -> Option<i32> {
         match load {
-            Some(top) => Some(top.max(weight)),
+            Some(top) => Some(larger(top, weight)),
             None => Some(weight),
         }
     }

@@ -6,13 +6,13 @@ use Rattle.std.specs.Written.{decimal}
 use Rattle.table.specs.Refusals.{numberOf}
 use Rattle.table.specs.declared.parts.Refusal.{Refusal}
 use Rattle.table.specs.declared.parts.Refusal.the-variants.{Full, BadSort, NoSuchNumber, BadLabel, CutShort, TrailingBytes}
-use Rattle.format.specs.declared.faults.Place.{Place}
-use Rattle.format.specs.declared.faults.StatesFault.{StatesFault}
-use Rattle.format.specs.declared.faults.StatesFault.the-variants.{Cut as StatesCut, Count as StatesCount, Sort}
-use Rattle.format.specs.declared.faults.LinksFault.{LinksFault}
-use Rattle.format.specs.declared.faults.LinksFault.the-variants.{Cut as LinksCut, Count as LinksCount, Source, Label, Target}
-use Rattle.format.specs.declared.faults.TableFault.{TableFault}
-use Rattle.format.specs.declared.faults.TableFault.the-variants.{States, Links, After}
+use Rattle.fault.specs.declared.Place.{Place}
+use Rattle.fault.specs.declared.StatesFault.{StatesFault}
+use Rattle.fault.specs.declared.StatesFault.the-variants.{Cut as StatesCut, Count as StatesCount, Sort}
+use Rattle.fault.specs.declared.LinksFault.{LinksFault}
+use Rattle.fault.specs.declared.LinksFault.the-variants.{Cut as LinksCut, Count as LinksCount, Source, Label, Target}
+use Rattle.fault.specs.declared.TableFault.{TableFault}
+use Rattle.fault.specs.declared.TableFault.the-variants.{States, Links, After}
 
 abbrev pub statesPlace : StatesFault → Place
 statesPlace (StatesCut f) = f .place

@@ -1,10 +1,10 @@
 //! What can be wrong with a file, layer by layer: bytes, section, table.
 ghost use mathlib.Core.Path.{_≡_};
 ghost use Rattle.std.specs.declared.option.Option.the-variants.{Some};
-ghost use Rattle.format.specs.declared.faults.StatesFault.the-variants.{Cut as StatesCut};
-ghost use Rattle.format.specs.declared.faults.LinksFault.the-variants.{Cut as LinksCut};
-ghost use Rattle.format.specs.declared.faults.TableFault.the-variants.{States, Links};
-ghost use Rattle.format.specs.Faults.{statesPlace, linksPlace, refusalOf, tablePlace, sectionOf, lineOf};
+ghost use Rattle.fault.specs.declared.StatesFault.the-variants.{Cut as StatesCut};
+ghost use Rattle.fault.specs.declared.LinksFault.the-variants.{Cut as LinksCut};
+ghost use Rattle.fault.specs.declared.TableFault.the-variants.{States, Links};
+ghost use Rattle.fault.specs.Faults.{statesPlace, linksPlace, refusalOf, tablePlace, sectionOf, lineOf};
 use std::fmt;
 use table::parts::Refusal;
 
