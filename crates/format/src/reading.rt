@@ -96,8 +96,8 @@ fn read_links(cursor: &mut Cursor, chart: &mut Chart, count: u16) -> Result<(), 
     ensures { λ r. ⌜ Follows (linksFrom (size (systemOf (now (chart .entry)))) (now (now (cursor .entry) .bytes)) (now (cursor .entry) .offset) 1 [] count) r (λ links. (systemOf (now (chart .exit)) ≡ record { states = systemOf (now (chart .entry)) .states; links = links }) × (now (cursor .exit) .offset ≡ now (cursor .entry) .offset + 9 * length links)) ⌝ }
 {
     let size = chart.states().len();
-    for index in 0..count {
-        cursor.begin(index + 1);
+    for number in 0..count {
+        cursor.begin(number + 1);
         let link = read_link(cursor, size)?;
         // checked already, so it is not refused
         let _ = chart.add_link(link);

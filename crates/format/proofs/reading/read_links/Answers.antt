@@ -18,29 +18,29 @@ pub returns-in-Break-link : need.returns-in-Break-link
 returns-in-Break-link c =
     let p = c .in-Break-link .ensures tt in
     let b = c .begin .ensures in
-    let inv = c .loop-index .inv in
+    let inv = c .loop-number .inv in
     let n : ℕ = size (systemOf (c .args .chart .now)) in
     let bytes = c .args .cursor .now .bytes .now in
-    let at = c .loop-index .cursor .offset in
+    let at = c .loop-number .cursor .offset in
     let f = c .in-Break-link .field-0 .0 in
     let e = err-from-errBy (c .from-residual .result) (c .from-residual .ensures .1) in
     let many : length (c .states-size .result .now) ≡ n = ap (λ ss. length ss) (c .states-size .ensures) in
-    let read : Err f ≡ linkAt n bytes at (c .loop-index .index + 1) = p .value ∙ ap (λ m. linkAt m (c .begin .last .self .bytes .now) (c .begin .last .self .offset) (c .begin .last .self .item)) many ∙ at-place (linkAt n) (b .same .0 ∙ inv .4) (b .same .1) (b .item) in
+    let read : Err f ≡ linkAt n bytes at (c .loop-number .number + 1) = p .value ∙ ap (λ m. linkAt m (c .begin .last .self .bytes .now) (c .begin .last .self .offset) (c .begin .last .self .item)) many ∙ at-place (linkAt n) (b .same .0 ∙ inv .4) (b .same .1) (b .item) in
     follows-stop (linksFrom n bytes (c .args .cursor .now .offset) 1 [] (c .args .count)) (c .from-residual .result) _ f
-    (sym (inv .0) ∙ links-stop n bytes at (c .loop-index .index + 1) (systemOf (c .loop-index .chart) .links) (c .args .count - c .loop-index .index) (c .args .count - (c .loop-index .index + 1)) f (omega arith) (sym read))
+    (sym (inv .0) ∙ links-stop n bytes at (c .loop-number .number + 1) (systemOf (c .loop-number .chart) .links) (c .args .count - c .loop-number .number) (c .args .count - (c .loop-number .number + 1)) f (omega arith) (sym read))
     (e .1 ∙ ap Err (e .2))
 
-pub loop-index-again : need.loop-index-again
-loop-index-again c =
+pub loop-number-again : need.loop-number-again
+loop-number-again c =
     let p = c .in-Continue-link .ensures tt in
     let b = c .begin .ensures in
-    let inv = c .loop-index .inv in
+    let inv = c .loop-number .inv in
     let n : ℕ = size (systemOf (c .args .chart .now)) in
     let bytes = c .args .cursor .now .bytes .now in
-    let at = c .loop-index .cursor .offset in
-    let i = c .loop-index .index in
+    let at = c .loop-number .cursor .offset in
+    let i = c .loop-number .number in
     let k = c .in-Continue-link .link in
-    let t : System = systemOf (c .loop-index .chart) in
+    let t : System = systemOf (c .loop-number .chart) in
     let t′ : System = systemOf (c .add-link .last .self) in
     let same = b .same .0 ∙ inv .4 in
     let many : length (c .states-size .result .now) ≡ n = ap (λ ss. length ss) (c .states-size .ensures) in

@@ -8,10 +8,10 @@ use Rattle.format.specs.Walk.{linksFrom}
 use Rattle.format.proofs.reading.read_links.Given as given
 
 -- what is left gives the answer for all
-abbrev pub Inv-loop-index : given.InvT-loop-index
-Inv-loop-index l =
-    (linksFrom (size (systemOf (l .entry .chart))) (l .entry .cursor .bytes .now) (l .cursor .offset) (l .index + 1) (systemOf (l .chart) .links) (l .count - l .index) ≡ linksFrom (size (systemOf (l .entry .chart))) (l .entry .cursor .bytes .now) (l .entry .cursor .offset) 1 [] (l .count))
-    × (l .cursor .offset ≡ l .entry .cursor .offset + 9 * l .index)
-    × (length (systemOf (l .chart) .links) ≡ l .index)
+abbrev pub Inv-loop-number : given.InvT-loop-number
+Inv-loop-number l =
+    (linksFrom (size (systemOf (l .entry .chart))) (l .entry .cursor .bytes .now) (l .cursor .offset) (l .number + 1) (systemOf (l .chart) .links) (l .count - l .number) ≡ linksFrom (size (systemOf (l .entry .chart))) (l .entry .cursor .bytes .now) (l .entry .cursor .offset) 1 [] (l .count))
+    × (l .cursor .offset ≡ l .entry .cursor .offset + 9 * l .number)
+    × (length (systemOf (l .chart) .links) ≡ l .number)
     × (systemOf (l .chart) .states ≡ systemOf (l .entry .chart) .states)
     × (l .cursor .bytes .now ≡ l .entry .cursor .bytes .now)
