@@ -13,7 +13,8 @@ use Rattle.std.specs.shelf.Lists.{All}
 use Rattle.std.proofs.shelf.Lists.{append-assoc, drop-at, drop-drop, length-append, length-drop, length-take-le, take-append-drop, take-at}
 use Rattle.std.proofs.shelf.Elements.{all-take, all-drop}
 use Rattle.std.proofs.shelf.Tests.{leb-true}
-use Rattle.format.specs.Walk.{numeral, andThen, fieldAt}
+use Rattle.fault.specs.declared.ByteFault.{ByteFault}
+use Rattle.format.specs.Walk.{numeral, andThen, allowed, fieldAt}
 use Rattle.format.specs.Encode.{bytesOf}
 use Rattle.format.proofs.Fields.{whole}
 
@@ -46,9 +47,9 @@ bytesOf-numeral (b ∷ bs) h =
     ap₂ _∷_ low (ap (bytesOf (length bs)) high ∙ bytesOf-numeral bs (h .1))
 
 -- a test that did not refuse
-allowed : {X E : Type 0} (b : Bool) (v x : X) (f : E) → cond b (Ok v) (Err f) ≡ Ok x → (b ≡ true) × (v ≡ x)
-allowed true v x f h = (refl, cc)
-allowed false v x f h = let z : _≡_ {A = ℕ} 0 1 = cc in absurd (omega arith)
+kept : {X E : Type 0} (b : Bool) (v x : X) (f : E) → cond b (Ok v) (Err f) ≡ Ok x → (b ≡ true) × (v ≡ x)
+kept true v x f h = (refl, cc)
+kept false v x f h = let z : _≡_ {A = ℕ} 0 1 = cc in absurd (omega arith)
 
 pub passed : {X E G : Type 0} (b : Bool) (f : E) (r : Result X E) (x : X) → cond b (Err f) r ≡ Ok x → (b ≡ false → r ≡ Ok x → G) → G
 passed true f r x h k = let z : _≡_ {A = ℕ} 0 1 = cc in absurd (omega arith)
@@ -58,6 +59,17 @@ passed false f r x h k = k refl h
 pub first-read : {X Y E F G : Type 0} (up : E → F) (r : Result X E) (next : X → Result Y F) (y : Y) → andThen up r next ≡ Ok y → ((x : X) → r ≡ Ok x → next x ≡ Ok y → G) → G
 first-read up (Ok x) next y h k = k x refl h
 first-read up (Err e) next y h k = let z : _≡_ {A = ℕ} 0 1 = cc in absurd (omega arith)
+
+-- a field whose value is allowed
+pub allowed-ok : {F : Type 0} (up : ByteFault → F) (wrong : ℕ → Bool) (f : F) (r : Result ℕ ByteFault) (v : ℕ) → r ≡ Ok v → wrong v ≡ false → allowed up wrong f r ≡ Ok v
+allowed-ok up wrong f r v e w = rw (e, w)
+
+pub allowed-is : {F : Type 0} (up : ByteFault → F) (wrong : ℕ → Bool) (f : F) (r : Result ℕ ByteFault) (v : ℕ) → allowed up wrong f r ≡ Ok v → (r ≡ Ok v) × (wrong v ≡ false)
+allowed-is up wrong f r v h =
+    first-read up r _ v h λ x e h.
+    passed (wrong x) f (Ok x) v h λ w h.
+    let q : x ≡ v = cc in
+    (e ∙ ap Ok q, sym (ap wrong q) ∙ w)
 
 module _ (bytes : List ℕ) where
   -- one part of the file after another
@@ -73,7 +85,7 @@ module _ (bytes : List ℕ) where
   -- a field holds the bytes of what is read, and the bytes of a number are read as it
   pub field-sound : All Byte bytes → (w at to item v : ℕ) → at + w ≡ to → fieldAt w bytes at item ≡ Ok v → (v < 256 ^ w) × (drop at bytes ≡ bytesOf w v ++ drop to bytes)
   field-sound all w at to item v t h =
-      let k = allowed (leb (at + w) (length bytes)) (numeral (take w (drop at bytes))) v _ h in
+      let k = kept (leb (at + w) (length bytes)) (numeral (take w (drop at bytes))) v _ h in
       let within = leb-true (at + w) (length bytes) (k .0) in
       let n : length (take w (drop at bytes)) ≡ w = length-take-le w (drop at bytes) (omega (arith, length-drop at bytes)) in
       let each = all-take Byte w (drop at bytes) (all-drop Byte at bytes all) in

@@ -1,6 +1,5 @@
 -- A state, a link, and the sections of a file.
 use mathlib.Core.Path.{_≡_, refl, sym, ap, ap₂, subst, _∙_}
-use mathlib.Core.Bool.{cond}
 use mathlib.Core.List.{List, [], _∷_, _++_}
 use Prim.Native.Nat.{ℕ, zero, suc, _+_, _*_, _<_, _≤_}
 use native.Mathlib.Nat.{mul-zero, mul-suc}
@@ -17,12 +16,12 @@ use Rattle.std.proofs.shelf.Lists.{append-assoc, append-nil, length-append}
 use Rattle.std.proofs.shelf.Signed.{ofZ-toZ, toZ-ofZ}
 use Rattle.std.proofs.shelf.Tests.{leb-false, ltb-false, lt-leb, le-ltb}
 use Rattle.table.specs.System.{LawfulState, LawfulLink}
-use Rattle.format.specs.Walk.{andThen, fieldAt, signedOf, stateAt, statesFrom, statesSection, linkAt, linksFrom, linksSection}
+use Rattle.format.specs.Walk.{andThen, allowed, fieldAt, signedOf, sortAt, stateAt, statesFrom, statesSection, sourceAt, labelAt, targetAt, linkAt, linksFrom, linksSection}
 use Rattle.format.specs.Encode.{bytesOf, stateBytes, linkBytes}
 use Rattle.fault.specs.declared.ByteFault.{ByteFault}
 use Rattle.fault.specs.declared.StatesFault.the-variants.{Cut as StatesCut}
 use Rattle.fault.specs.declared.LinksFault.the-variants.{Cut as LinksCut}
-use Rattle.format.proofs.Bytes.{Byte, passed, first-read, join, past, split, field-sound, field-complete}
+use Rattle.format.proofs.Bytes.{Byte, first-read, allowed-ok, allowed-is, join, past, split, field-sound, field-complete}
 
 -- a section: the items after their count
 abbrev pub sectionBytes : {X : Type 0} → (X → List ℕ) → List X → List ℕ
@@ -68,19 +67,19 @@ module _ (bytes : List ℕ) {X E : Type 0} (step : ℕ → ℕ → Result X E) (
   items-sized (x ∷ xs) = length-append (write x) (joined write xs) ∙ omega (arith, reads .sized x, items-sized xs, mul-suc w (length xs))
 
   section : All Byte bytes → (up : ByteFault → E) (most at : ℕ) (full : E) → most < 65536 →
-      Section bytes (andThen up (fieldAt 2 bytes at 0) (λ count. cond (ltb most count) (Err full) (from (at + 2) 1 [] count))) write w most at P
+      Section bytes (andThen (λ f. f) (allowed up (ltb most) full (fieldAt 2 bytes at 0)) (from (at + 2) 1 [])) write w most at P
   section all up most at full small = record {
     sound = λ xs to t h.
-        first-read up (fieldAt 2 bytes at 0) _ xs h λ count c h.
-        passed (ltb most count) full _ xs h λ few h.
+        first-read (λ f. f) (allowed up (ltb most) full (fieldAt 2 bytes at 0)) _ xs h λ count a h.
+        let counted = allowed-is up (ltb most) full (fieldAt 2 bytes at 0) count a in
         let s = items-sound (at + 2) 1 [] count (at + 2 + w * count) xs refl h in
         let n : count ≡ length xs = sym (ap length (s .1) ∙ s .2) in
-        let first : drop at bytes ≡ bytesOf 2 (length xs) ++ drop (at + 2) bytes = field-sound bytes all 2 at (at + 2) 0 count refl c .1 ∙ ap (λ m. bytesOf 2 m ++ drop (at + 2) bytes) n in
+        let first : drop at bytes ≡ bytesOf 2 (length xs) ++ drop (at + 2) bytes = field-sound bytes all 2 at (at + 2) 0 count refl (counted .0) .1 ∙ ap (λ m. bytesOf 2 m ++ drop (at + 2) bytes) n in
         let rest : drop (at + 2) bytes ≡ joined write xs ++ drop to bytes = s .4 ∙ ap₂ (λ ys m. joined write ys ++ drop m bytes) (sym (s .1)) (ap (λ m. at + 2 + w * m) n ∙ t) in
-        (omega (arith, ltb-false most count few), subst (All P) (sym (s .1)) (s .3), join bytes at (at + 2) to (bytesOf 2 (length xs)) (joined write xs) first rest);
+        (omega (arith, ltb-false most count (counted .1)), subst (All P) (sym (s .1)) (s .3), join bytes at (at + 2) to (bytesOf 2 (length xs)) (joined write xs) first rest);
     complete = λ xs to rest t l h e.
         let k = split bytes at 2 (at + 2) (bytesOf 2 (length xs)) (joined write xs) rest refl refl e in (
-          rw (field-complete bytes 2 at 0 (length xs) _ (omega arith) (omega arith) (k .0), le-ltb most (length xs) l, items-complete (at + 2) 1 [] xs rest h (k .1)),
+          rw (allowed-ok up (ltb most) full (fieldAt 2 bytes at 0) (length xs) (field-complete bytes 2 at 0 (length xs) _ (omega arith) (omega arith) (k .0)) (le-ltb most (length xs) l), items-complete (at + 2) 1 [] xs rest h (k .1)),
           past bytes (at + 2) (w * length xs) to (joined write xs) rest t (items-sized xs) (k .1),
         );
   }
@@ -89,44 +88,44 @@ module _ (bytes : List ℕ) (all : All Byte bytes) where
   reads-state : Reads bytes (stateAt bytes) stateBytes 3 LawfulState
   reads-state = record {
     sound = λ at item x h.
-        first-read StatesCut (fieldAt 1 bytes at item) _ x h λ sort a h.
-        passed (ltb 3 sort) _ _ x h λ low h.
+        first-read (λ f. f) (sortAt bytes at item) _ x h λ sort s h.
+        let a = allowed-is StatesCut (ltb 3) _ (fieldAt 1 bytes at item) sort s in
         first-read StatesCut (fieldAt 2 bytes (at + 1) item) _ x h λ output b h.
-        let k = field-sound bytes all 1 at (at + 1) item sort refl a in
+        let k = field-sound bytes all 1 at (at + 1) item sort refl (a .0) in
         let l = field-sound bytes all 2 (at + 1) (at + 3) item output (omega arith) b in
         let is : record { sort = sort; output = output } ≡ x = cc in
         subst (λ y. LawfulState y × (drop at bytes ≡ stateBytes y ++ drop (at + 3) bytes)) is
-        (record { sort = omega (arith, ltb-false 3 sort low); output = l .0 }, join bytes at (at + 1) (at + 3) (bytesOf 1 sort) (bytesOf 2 output) (k .1) (l .1));
+        (record { sort = omega (arith, ltb-false 3 sort (a .1)); output = l .0 }, join bytes at (at + 1) (at + 3) (bytesOf 1 sort) (bytesOf 2 output) (k .1) (l .1));
     complete = λ at item x rest p e.
         let k = split bytes at 1 (at + 1) (bytesOf 1 (x .sort)) (bytesOf 2 (x .output)) rest refl refl e in
-        rw (field-complete bytes 1 at item (x .sort) _ (omega arith) (omega (arith, p .sort)) (k .0), le-ltb 3 (x .sort) (omega (arith, p .sort)), field-complete bytes 2 (at + 1) item (x .output) rest (omega arith) (p .output) (k .1));
+        rw (allowed-ok StatesCut (ltb 3) _ (fieldAt 1 bytes at item) (x .sort) (field-complete bytes 1 at item (x .sort) _ (omega arith) (omega (arith, p .sort)) (k .0)) (le-ltb 3 (x .sort) (omega (arith, p .sort))), field-complete bytes 2 (at + 1) item (x .output) rest (omega arith) (p .output) (k .1));
     sized = λ x. refl;
   }
 
   reads-link : (n : ℕ) → n ≤ 1024 → Reads bytes (linkAt n bytes) linkBytes 9 (LawfulLink n)
   reads-link n small = record {
     sound = λ at item x h.
-        first-read LinksCut (fieldAt 2 bytes at item) _ x h λ source a h.
-        passed (leb n source) _ _ x h λ sn h.
-        first-read LinksCut (fieldAt 1 bytes (at + 2) item) _ x h λ label b h.
-        passed (ltb 63 label) _ _ x h λ low h.
+        first-read (λ f. f) (sourceAt n bytes at item) _ x h λ source s h.
+        let a = allowed-is LinksCut (leb n) _ (fieldAt 2 bytes at item) source s in
+        first-read (λ f. f) (labelAt bytes (at + 2) item) _ x h λ label s h.
+        let b = allowed-is LinksCut (ltb 63) _ (fieldAt 1 bytes (at + 2) item) label s in
         first-read LinksCut (signedOf (fieldAt 4 bytes (at + 3) item)) _ x h λ weight signed h.
         first-read (λ f. f) (fieldAt 4 bytes (at + 3) item) (λ v. Ok (toZ w32 v)) weight signed λ v c seen.
-        first-read LinksCut (fieldAt 2 bytes (at + 7) item) _ x h λ target d h.
-        passed (leb n target) _ _ x h λ tn h.
-        let k = field-sound bytes all 2 at (at + 2) item source refl a in
-        let l = field-sound bytes all 1 (at + 2) (at + 3) item label (omega arith) b in
+        first-read (λ f. f) (targetAt n bytes (at + 7) item) _ x h λ target s h.
+        let d = allowed-is LinksCut (leb n) _ (fieldAt 2 bytes (at + 7) item) target s in
+        let k = field-sound bytes all 2 at (at + 2) item source refl (a .0) in
+        let l = field-sound bytes all 1 (at + 2) (at + 3) item label (omega arith) (b .0) in
         let m = field-sound bytes all 4 (at + 3) (at + 7) item v (omega arith) c in
-        let o = field-sound bytes all 2 (at + 7) (at + 9) item target (omega arith) d in
+        let o = field-sound bytes all 2 (at + 7) (at + 9) item target (omega arith) (d .0) in
         let z : toZ w32 v ≡ weight = cc in
         let is : record { source = source; label = label; weight = weight; target = target } ≡ x = cc in
         let bits : v ≡ ofZ w32 weight = sym (ofZ-toZ w32 v (m .0)) ∙ ap (ofZ w32) z in
         subst (λ y. LawfulLink n y × (drop at bytes ≡ linkBytes y ++ drop (at + 9) bytes)) is (
           record {
-            source = leb-false n source sn;
-            label = omega (arith, ltb-false 63 label low);
+            source = leb-false n source (a .1);
+            label = omega (arith, ltb-false 63 label (b .1));
             weight = subst (SFits w32) z (sfits-toZ (record { fits = m .0 }));
-            target = leb-false n target tn;
+            target = leb-false n target (d .1);
           },
           join bytes at (at + 2) (at + 9) (bytesOf 2 source) (bytesOf 1 label ++ (bytesOf 4 (ofZ w32 weight) ++ bytesOf 2 target)) (k .1)
               (join bytes (at + 2) (at + 3) (at + 9) (bytesOf 1 label) (bytesOf 4 (ofZ w32 weight) ++ bytesOf 2 target) (l .1)
@@ -140,14 +139,11 @@ module _ (bytes : List ℕ) (all : All Byte bytes) where
         let b = split bytes (at + 2) 1 (at + 3) label (weight ++ target) rest (omega arith) refl (a .1) in
         let c = split bytes (at + 3) 4 (at + 7) weight target rest (omega arith) refl (b .1) in
         rw (
-          field-complete bytes 2 at item (x .source) _ (omega arith) (omega (arith, p .source)) (a .0),
-          lt-leb n (x .source) (p .source),
-          field-complete bytes 1 (at + 2) item (x .label) _ (omega arith) (omega (arith, p .label)) (b .0),
-          le-ltb 63 (x .label) (omega (arith, p .label)),
+          allowed-ok LinksCut (leb n) _ (fieldAt 2 bytes at item) (x .source) (field-complete bytes 2 at item (x .source) _ (omega arith) (omega (arith, p .source)) (a .0)) (lt-leb n (x .source) (p .source)),
+          allowed-ok LinksCut (ltb 63) _ (fieldAt 1 bytes (at + 2) item) (x .label) (field-complete bytes 1 (at + 2) item (x .label) _ (omega arith) (omega (arith, p .label)) (b .0)) (le-ltb 63 (x .label) (omega (arith, p .label))),
           field-complete bytes 4 (at + 3) item (ofZ w32 (x .weight)) _ (omega arith) (fits-ofZ (p .weight) .fits) (c .0),
           toZ-ofZ w32 (x .weight) (p .weight),
-          field-complete bytes 2 (at + 7) item (x .target) rest (omega arith) (omega (arith, p .target)) (c .1),
-          lt-leb n (x .target) (p .target),
+          allowed-ok LinksCut (leb n) _ (fieldAt 2 bytes (at + 7) item) (x .target) (field-complete bytes 2 (at + 7) item (x .target) rest (omega arith) (omega (arith, p .target)) (c .1)) (lt-leb n (x .target) (p .target)),
         );
     sized = λ x. refl;
   }

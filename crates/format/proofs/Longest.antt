@@ -1,6 +1,5 @@
 -- Past the longest file, what follows changes no answer.
 use mathlib.Core.Path.{_≡_, refl, sym, ap, _∙_}
-use mathlib.Core.Bool.{Bool, true, false, cond}
 use mathlib.Core.List.{List, [], _∷_, _++_}
 use Prim.Native.Nat.{ℕ, zero, suc, _+_, _*_, _<_, _≤_}
 use native.Mathlib.Nat.{mul-suc, mul-le-mul-left}
@@ -11,22 +10,18 @@ use Rattle.std.specs.declared.result.Result.{Result}
 use Rattle.std.specs.declared.result.Result.the-variants.{Ok, Err}
 use Rattle.std.proofs.shelf.Lists.{drop-append-le, length-append, length-drop, length-push, take-append-le}
 use Rattle.std.proofs.shelf.Tests.{ltb-false, lt-ltb}
-use Rattle.format.specs.Walk.{numeral, andThen, fieldAt, stateAt, statesFrom, statesSection, statesEnd, linkAt, linksFrom, linksSection, linksEnd, decode}
+use Rattle.format.specs.Walk.{numeral, andThen, allowed, fieldAt, stateAt, statesFrom, statesSection, statesEnd, linkAt, linksFrom, linksSection, linksEnd, decode}
 use Rattle.fault.specs.declared.ByteFault.{ByteFault}
 use Rattle.fault.specs.declared.StatesFault.the-variants.{Cut as StatesCut}
 use Rattle.fault.specs.declared.LinksFault.the-variants.{Cut as LinksCut}
 use Rattle.fault.specs.declared.TableFault.the-variants.{States, Links}
-use Rattle.format.proofs.Bytes.{passed, first-read}
+use Rattle.format.proofs.Bytes.{first-read, allowed-is}
 use Rattle.format.proofs.Fields.{whole}
 
 -- two steps that read the same, and go on alike
 then-same : {X Y E F : Type 0} (up : E → F) (r r′ : Result X E) (next next′ : X → Result Y F) → r ≡ r′ → ((x : X) → r′ ≡ Ok x → next x ≡ next′ x) → andThen up r next ≡ andThen up r′ next′
 then-same up r (Ok x) next next′ e k = ap (λ q. andThen up q next) e ∙ k x refl
 then-same up r (Err f) next next′ e k = ap (λ q. andThen up q next) e
-
-pass-same : {Y : Type 0} (b : Bool) (f r r′ : Y) → (b ≡ false → r ≡ r′) → cond b f r ≡ cond b f r′
-pass-same true f r r′ k = refl
-pass-same false f r r′ k = k refl
 
 module _ (bytes more : List ℕ) where
   field-same : (w at item : ℕ) → at + w ≤ length bytes → fieldAt w (bytes ++ more) at item ≡ fieldAt w bytes at item
@@ -62,17 +57,16 @@ module _ (bytes more : List ℕ) where
         omega (arith, items-many (at + w) (item + 1) (acc ++ (x ∷ [])) left res later, length-push acc x)
 
     section-same : (up : ByteFault → E) (most at : ℕ) (full : E) → at + 2 + w * most ≤ length bytes →
-        let section : List ℕ → Result (List X) E = λ bs. andThen up (fieldAt 2 bs at 0) (λ count. cond (ltb most count) (Err full) (from bs (at + 2) 1 [] count)) in
+        let section : List ℕ → Result (List X) E = λ bs. andThen (λ f. f) (allowed up (ltb most) full (fieldAt 2 bs at 0)) (from bs (at + 2) 1 []) in
         (section (bytes ++ more) ≡ section bytes) × ((xs : List X) → section bytes ≡ Ok xs → length xs ≤ most)
-    section-same up most at full h = (
-      then-same up (fieldAt 2 (bytes ++ more) at 0) (fieldAt 2 bytes at 0) _ _ (field-same 2 at 0 (omega arith)) λ count _.
-          pass-same (ltb most count) _ _ _ λ few.
-          items-same (at + 2) 1 [] count (omega (arith, mul-le-mul-left w (ltb-false most count few))),
-      λ xs e.
-          first-read up (fieldAt 2 bytes at 0) _ xs e λ count _ e.
-          passed (ltb most count) full _ xs e λ few e.
-          omega (arith, ltb-false most count few, items-many (at + 2) 1 [] count xs e),
-    )
+    section-same up most at full h =
+        let few : (count : ℕ) → allowed up (ltb most) full (fieldAt 2 bytes at 0) ≡ Ok count → count ≤ most = λ count e. ltb-false most count (allowed-is up (ltb most) full (fieldAt 2 bytes at 0) count e .1) in (
+          then-same (λ f. f) (allowed up (ltb most) full (fieldAt 2 (bytes ++ more) at 0)) (allowed up (ltb most) full (fieldAt 2 bytes at 0)) _ _ (ap (allowed up (ltb most) full) (field-same 2 at 0 (omega arith))) λ count e.
+              items-same (at + 2) 1 [] count (omega (arith, mul-le-mul-left w (few count e))),
+          λ xs e.
+              first-read (λ f. f) (allowed up (ltb most) full (fieldAt 2 bytes at 0)) _ xs e λ count a e.
+              omega (arith, few count a, items-many (at + 2) 1 [] count xs e),
+        )
 
 pub longest : (bytes more : List ℕ) → 39940 < length bytes → decode (bytes ++ more) ≡ decode bytes
 longest bytes more h =

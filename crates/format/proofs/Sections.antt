@@ -15,12 +15,12 @@ use Rattle.table.specs.declared.parts.State.{State}
 use Rattle.table.specs.declared.parts.Link.{Link}
 use Rattle.table.specs.declared.parts.Refusal.{Refusal}
 use Rattle.format.specs.Answers.{Follows}
-use Rattle.format.specs.Walk.{andThen, fieldAt, signedOf, stateAt, statesFrom, linkAt, linksFrom}
+use Rattle.format.specs.Walk.{andThen, fieldAt, signedOf, sortAt, stateAt, statesFrom, sourceAt, labelAt, targetAt, linkAt, linksFrom}
 use Rattle.fault.specs.declared.StatesFault.{StatesFault}
 use Rattle.fault.specs.declared.StatesFault.the-variants.{Cut as StatesCut}
 use Rattle.fault.specs.declared.LinksFault.{LinksFault}
 use Rattle.fault.specs.declared.LinksFault.the-variants.{Cut as LinksCut}
-use Rattle.format.proofs.Bytes.{passed, first-read}
+use Rattle.format.proofs.Bytes.{first-read, allowed-is}
 
 module _ (bytes : List ℕ) (at item : ℕ) where
   pub states-step : (acc : List State) (n k : ℕ) (s : State) → n ≡ suc k → stateAt bytes at item ≡ Ok s → statesFrom bytes at item acc n ≡ statesFrom bytes (at + 3) (item + 1) (acc ++ (s ∷ [])) k
@@ -31,11 +31,10 @@ module _ (bytes : List ℕ) (at item : ℕ) where
 
   pub state-low : (s : State) → stateAt bytes at item ≡ Ok s → s .sort < 4
   state-low s e =
-      first-read StatesCut (fieldAt 1 bytes at item) _ s e λ sort a e.
-      passed (ltb 3 sort) _ _ s e λ low e.
+      first-read (λ f. f) (sortAt bytes at item) _ s e λ sort a e.
       first-read StatesCut (fieldAt 2 bytes (at + 1) item) _ s e λ output b e.
       let is : record { sort = sort; output = output } ≡ s = cc in
-      omega (arith, ap (λ u. u .sort) is, ltb-false 3 sort low)
+      omega (arith, ap (λ u. u .sort) is, ltb-false 3 sort (allowed-is StatesCut (ltb 3) _ (fieldAt 1 bytes at item) sort a .1))
 
 -- a state that was read is not refused
 pub state-added : (t t′ : System) (s : State) (r : Result ℕ Refusal) → size t < 1024 → s .sort < 4 → r ≡ stateAnswer t s → t′ ≡ afterwards r t (withState t s) → t′ ≡ withState t s
@@ -52,17 +51,14 @@ module _ (n : ℕ) (bytes : List ℕ) (at item : ℕ) where
 
   pub link-low : (l : Link) → linkAt n bytes at item ≡ Ok l → (l .source < n) × (l .label ≤ 63) × (l .target < n)
   link-low l e =
-      first-read LinksCut (fieldAt 2 bytes at item) _ l e λ source a e.
-      passed (leb n source) _ _ l e λ sn e.
-      first-read LinksCut (fieldAt 1 bytes (at + 2) item) _ l e λ label b e.
-      passed (ltb 63 label) _ _ l e λ low e.
+      first-read (λ f. f) (sourceAt n bytes at item) _ l e λ source a e.
+      first-read (λ f. f) (labelAt bytes (at + 2) item) _ l e λ label b e.
       first-read LinksCut (signedOf (fieldAt 4 bytes (at + 3) item)) _ l e λ weight c e.
-      first-read LinksCut (fieldAt 2 bytes (at + 7) item) _ l e λ target d e.
-      passed (leb n target) _ _ l e λ tn e.
+      first-read (λ f. f) (targetAt n bytes (at + 7) item) _ l e λ target d e.
       let is : record { source = source; label = label; weight = weight; target = target } ≡ l = cc in (
-        omega (arith, ap (λ k. k .source) is, leb-false n source sn),
-        omega (arith, ap (λ k. k .label) is, ltb-false 63 label low),
-        omega (arith, ap (λ k. k .target) is, leb-false n target tn),
+        omega (arith, ap (λ k. k .source) is, leb-false n source (allowed-is LinksCut (leb n) _ (fieldAt 2 bytes at item) source a .1)),
+        omega (arith, ap (λ k. k .label) is, ltb-false 63 label (allowed-is LinksCut (ltb 63) _ (fieldAt 1 bytes (at + 2) item) label b .1)),
+        omega (arith, ap (λ k. k .target) is, leb-false n target (allowed-is LinksCut (leb n) _ (fieldAt 2 bytes (at + 7) item) target d .1)),
       )
 
 -- a link that was read is not refused

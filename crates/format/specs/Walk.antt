@@ -1,6 +1,6 @@
 -- Reading a file field by field: each field is checked as soon as it is taken.
 use mathlib.Core.Path.{_≡_}
-use mathlib.Core.Bool.{cond}
+use mathlib.Core.Bool.{Bool, cond}
 use mathlib.Core.List.{List, [], _∷_, _++_}
 use Prim.Native.Nat.{ℕ, zero, suc, _+_, _*_}
 use lib.Dec.{leb, ltb}
@@ -36,6 +36,10 @@ abbrev pub fieldAt : ℕ → List ℕ → ℕ → ℕ → Result ℕ ByteFault
 fieldAt width bytes at item =
     cond (leb (at + width) (length bytes)) (Ok (numeral (take width (drop at bytes)))) (Err (record { place = record { offset = at; item = item } }))
 
+-- a field whose value must not be wrong
+abbrev pub allowed : {F : Type 0} → (ByteFault → F) → (ℕ → Bool) → F → Result ℕ ByteFault → Result ℕ F
+allowed up wrong fault r = andThen up r (λ v. cond (wrong v) (Err fault) (Ok v))
+
 -- where such a field begins, if it is whole
 abbrev pub startOf : ℕ → List ℕ → ℕ → ℕ → Result ℕ ByteFault
 startOf width bytes at item = cond (leb (at + width) (length bytes)) (Ok at) (Err (record { place = record { offset = at; item = item } }))
@@ -49,46 +53,54 @@ abbrev pub advanced : {X Y : Type 0} → Result X Y → ℕ → ℕ → ℕ
 advanced (Ok x) at width = at + width
 advanced (Err f) at width = at
 
+-- a sort is at most 3
+abbrev pub sortAt : List ℕ → ℕ → ℕ → Result ℕ StatesFault
+sortAt bytes at item = allowed StatesCut (ltb 3) (Sort (record { offset = at; item = item })) (fieldAt 1 bytes at item)
+
 -- a state: sort and output
 abbrev pub stateAt : List ℕ → ℕ → ℕ → Result State StatesFault
 stateAt bytes at item =
-    andThen StatesCut (fieldAt 1 bytes at item) (λ sort.
-    cond (ltb 3 sort) (Err (Sort (record { offset = at; item = item })))
-    (andThen StatesCut (fieldAt 2 bytes (at + 1) item) (λ output.
-    Ok (record { sort = sort; output = output }))))
+    andThen (λ f. f) (sortAt bytes at item) (λ sort.
+    andThen StatesCut (fieldAt 2 bytes (at + 1) item) (λ output.
+    Ok (record { sort = sort; output = output })))
 
 -- so many states more, from an offset and an item on, behind those that were read
 abbrev pub statesFrom : List ℕ → ℕ → ℕ → List State → ℕ → Result (List State) StatesFault
 statesFrom bytes at item states zero = Ok states
 statesFrom bytes at item states (suc left) = andThen (λ f. f) (stateAt bytes at item) (λ s. statesFrom bytes (at + 3) (item + 1) (states ++ (s ∷ [])) left)
 
+-- at most 1,024 states, after their count
 abbrev pub statesSection : List ℕ → Result (List State) StatesFault
 statesSection bytes =
-    andThen StatesCut (fieldAt 2 bytes 0 0) (λ count.
-    cond (ltb 1024 count) (Err (StatesCount (record { offset = 0; item = 0 })))
-    (statesFrom bytes 2 1 [] count))
+    andThen (λ f. f) (allowed StatesCut (ltb 1024) (StatesCount (record { offset = 0; item = 0 })) (fieldAt 2 bytes 0 0)) (statesFrom bytes 2 1 [])
 
--- a link among n states: source, label, weight and target
+-- a source and a target are among n states, and a label is at most 63
+abbrev pub sourceAt : ℕ → List ℕ → ℕ → ℕ → Result ℕ LinksFault
+sourceAt n bytes at item = allowed LinksCut (leb n) (Source (record { offset = at; item = item })) (fieldAt 2 bytes at item)
+
+abbrev pub labelAt : List ℕ → ℕ → ℕ → Result ℕ LinksFault
+labelAt bytes at item = allowed LinksCut (ltb 63) (Label (record { offset = at; item = item })) (fieldAt 1 bytes at item)
+
+abbrev pub targetAt : ℕ → List ℕ → ℕ → ℕ → Result ℕ LinksFault
+targetAt n bytes at item = allowed LinksCut (leb n) (Target (record { offset = at; item = item })) (fieldAt 2 bytes at item)
+
+-- a link: source, label, weight and target
 abbrev pub linkAt : ℕ → List ℕ → ℕ → ℕ → Result Link LinksFault
 linkAt n bytes at item =
-    andThen LinksCut (fieldAt 2 bytes at item) (λ source.
-    cond (leb n source) (Err (Source (record { offset = at; item = item })))
-    (andThen LinksCut (fieldAt 1 bytes (at + 2) item) (λ label.
-    cond (ltb 63 label) (Err (Label (record { offset = at + 2; item = item })))
-    (andThen LinksCut (signedOf (fieldAt 4 bytes (at + 3) item)) (λ weight.
-    andThen LinksCut (fieldAt 2 bytes (at + 7) item) (λ target.
-    cond (leb n target) (Err (Target (record { offset = at + 7; item = item })))
-    (Ok (record { source = source; label = label; weight = weight; target = target }))))))))
+    andThen (λ f. f) (sourceAt n bytes at item) (λ source.
+    andThen (λ f. f) (labelAt bytes (at + 2) item) (λ label.
+    andThen LinksCut (signedOf (fieldAt 4 bytes (at + 3) item)) (λ weight.
+    andThen (λ f. f) (targetAt n bytes (at + 7) item) (λ target.
+    Ok (record { source = source; label = label; weight = weight; target = target })))))
 
 abbrev pub linksFrom : ℕ → List ℕ → ℕ → ℕ → List Link → ℕ → Result (List Link) LinksFault
 linksFrom n bytes at item links zero = Ok links
 linksFrom n bytes at item links (suc left) = andThen (λ f. f) (linkAt n bytes at item) (λ k. linksFrom n bytes (at + 9) (item + 1) (links ++ (k ∷ [])) left)
 
+-- at most 4,096 links, after their count
 abbrev pub linksSection : ℕ → List ℕ → ℕ → Result (List Link) LinksFault
 linksSection n bytes at =
-    andThen LinksCut (fieldAt 2 bytes at 0) (λ count.
-    cond (ltb 4096 count) (Err (LinksCount (record { offset = at; item = 0 })))
-    (linksFrom n bytes (at + 2) 1 [] count))
+    andThen (λ f. f) (allowed LinksCut (ltb 4096) (LinksCount (record { offset = at; item = 0 })) (fieldAt 2 bytes at 0)) (linksFrom n bytes (at + 2) 1 [])
 
 -- where the states end, and the links
 abbrev pub statesEnd : ℕ → ℕ

@@ -1,5 +1,6 @@
 //! The layer of bytes: fields of one, two and four bytes, the lowest byte first.
 ghost use mathlib.Core.Path.{_≡_};
+ghost use Prim.Native.Nat.{_+_, _<_};
 ghost use Rattle.format.specs.Walk.{fieldAt, startOf, signedOf, advanced};
 use fault::ByteFault;
 use fault::Place;
@@ -34,12 +35,21 @@ impl<'a> Cursor<'a> {
         }
     }
 
-    /// The next field belongs to this item.
-    pub fn begin(&mut self, item: u16)
-        ensures item { λ _. ⌜ now (self .exit) .item ≡ item ⌝ }
+    /// The next field belongs to the state or link with this number; its item is one more.
+    pub fn begin_item(&mut self, number: u16)
+        requires { ⌜ number < 4096 ⌝ }
+        ensures item { λ _. ⌜ now (self .exit) .item ≡ number + 1 ⌝ }
         ensures same { λ _. ⌜ (now (now (self .exit) .bytes) ≡ now (now (self .entry) .bytes)) × (now (self .exit) .offset ≡ now (self .entry) .offset) ⌝ }
     {
-        self.item = item;
+        self.item = number + 1;
+    }
+
+    /// The next field is a count.
+    pub fn begin_count(&mut self)
+        ensures item { λ _. ⌜ now (self .exit) .item ≡ 0 ⌝ }
+        ensures same { λ _. ⌜ (now (now (self .exit) .bytes) ≡ now (now (self .entry) .bytes)) × (now (self .exit) .offset ≡ now (self .entry) .offset) ⌝ }
+    {
+        self.item = 0;
     }
 
     // Where a field of so many bytes begins; the cursor goes past it.

@@ -9,7 +9,7 @@ ghost use Rattle.std.specs.declared.result.Result.the-variants.{Ok};
 ghost use Rattle.table.specs.System.{System, size};
 ghost use Rattle.format.specs.Encode.{FileOf};
 ghost use Rattle.table.specs.Charts.{systemOf, noSystem};
-ghost use Rattle.format.specs.Walk.{stateAt, statesFrom, statesSection, linkAt, linksFrom, linksSection, statesEnd, decode};
+ghost use Rattle.format.specs.Walk.{sortAt, stateAt, statesFrom, statesSection, sourceAt, labelAt, targetAt, linkAt, linksFrom, linksSection, statesEnd, decode};
 ghost use Rattle.format.specs.Answers.{Follows, answerOf, systemIn};
 use crate::cursor::Cursor;
 use fault::LinksFault;
@@ -28,43 +28,87 @@ use table::parts::State;
 /// The bytes of the longest file that is accepted: 1,024 states and 4,096 links.
 pub const LONGEST_FILE: usize = 39_940;
 
-// The state at the cursor.
-fn read_state(cursor: &mut Cursor) -> Result<State, StatesFault>
-    ensures value { λ r. ⌜ r ≡ stateAt (now (now (cursor .entry) .bytes)) (now (cursor .entry) .offset) (now (cursor .entry) .item) ⌝ }
-    ensures offset { λ r. ⌜ made r (λ _. now (cursor .exit) .offset ≡ now (cursor .entry) .offset + 3) ⌝ }
-    ensures bytes { λ _. ⌜ now (now (cursor .exit) .bytes) ≡ now (now (cursor .entry) .bytes) ⌝ }
+// The sort of a state.
+fn take_sort(cursor: &mut Cursor) -> Result<u8, StatesFault>
+    ensures value { λ r. ⌜ r ≡ sortAt (now (now (cursor .entry) .bytes)) (now (cursor .entry) .offset) (now (cursor .entry) .item) ⌝ }
+    ensures offset { λ r. ⌜ made r (λ _. now (cursor .exit) .offset ≡ now (cursor .entry) .offset + 1) ⌝ }
+    ensures same { λ _. ⌜ (now (now (cursor .exit) .bytes) ≡ now (now (cursor .entry) .bytes)) × (now (cursor .exit) .item ≡ now (cursor .entry) .item) ⌝ }
 {
     let place = cursor.place();
     let sort = cursor.take_u8()?;
     if sort > 3 {
         return Err(StatesFault::Sort(place));
     }
-    let output = cursor.take_u16()?;
-    Ok(State { sort, output })
+    Ok(sort)
 }
 
-// The link at the cursor, in a file of `size` states.
-fn read_link(cursor: &mut Cursor, size: usize) -> Result<Link, LinksFault>
-    ensures value { λ r. ⌜ r ≡ linkAt size (now (now (cursor .entry) .bytes)) (now (cursor .entry) .offset) (now (cursor .entry) .item) ⌝ }
-    ensures offset { λ r. ⌜ made r (λ _. now (cursor .exit) .offset ≡ now (cursor .entry) .offset + 9) ⌝ }
-    ensures bytes { λ _. ⌜ now (now (cursor .exit) .bytes) ≡ now (now (cursor .entry) .bytes) ⌝ }
+// The source of a link, in a file of `size` states.
+fn take_source(cursor: &mut Cursor, size: usize) -> Result<u16, LinksFault>
+    ensures value { λ r. ⌜ r ≡ sourceAt size (now (now (cursor .entry) .bytes)) (now (cursor .entry) .offset) (now (cursor .entry) .item) ⌝ }
+    ensures offset { λ r. ⌜ made r (λ _. now (cursor .exit) .offset ≡ now (cursor .entry) .offset + 2) ⌝ }
+    ensures same { λ _. ⌜ (now (now (cursor .exit) .bytes) ≡ now (now (cursor .entry) .bytes)) × (now (cursor .exit) .item ≡ now (cursor .entry) .item) ⌝ }
 {
     let place = cursor.place();
     let source = cursor.take_u16()?;
     if source as usize >= size {
         return Err(LinksFault::Source(place));
     }
+    Ok(source)
+}
+
+// The label of a link.
+fn take_label(cursor: &mut Cursor) -> Result<u8, LinksFault>
+    ensures value { λ r. ⌜ r ≡ labelAt (now (now (cursor .entry) .bytes)) (now (cursor .entry) .offset) (now (cursor .entry) .item) ⌝ }
+    ensures offset { λ r. ⌜ made r (λ _. now (cursor .exit) .offset ≡ now (cursor .entry) .offset + 1) ⌝ }
+    ensures same { λ _. ⌜ (now (now (cursor .exit) .bytes) ≡ now (now (cursor .entry) .bytes)) × (now (cursor .exit) .item ≡ now (cursor .entry) .item) ⌝ }
+{
     let place = cursor.place();
     let label = cursor.take_u8()?;
     if label > 63 {
         return Err(LinksFault::Label(place));
     }
-    let weight = cursor.take_i32()?;
+    Ok(label)
+}
+
+// The target of a link, in a file of `size` states.
+fn take_target(cursor: &mut Cursor, size: usize) -> Result<u16, LinksFault>
+    ensures value { λ r. ⌜ r ≡ targetAt size (now (now (cursor .entry) .bytes)) (now (cursor .entry) .offset) (now (cursor .entry) .item) ⌝ }
+    ensures offset { λ r. ⌜ made r (λ _. now (cursor .exit) .offset ≡ now (cursor .entry) .offset + 2) ⌝ }
+    ensures same { λ _. ⌜ (now (now (cursor .exit) .bytes) ≡ now (now (cursor .entry) .bytes)) × (now (cursor .exit) .item ≡ now (cursor .entry) .item) ⌝ }
+{
     let place = cursor.place();
     let target = cursor.take_u16()?;
     if target as usize >= size {
         return Err(LinksFault::Target(place));
     }
+    Ok(target)
+}
+
+// The state at the cursor, with this number; its item is one more.
+fn read_state(cursor: &mut Cursor, number: u16) -> Result<State, StatesFault>
+    requires { ⌜ number < 1024 ⌝ }
+    ensures value { λ r. ⌜ r ≡ stateAt (now (now (cursor .entry) .bytes)) (now (cursor .entry) .offset) (number + 1) ⌝ }
+    ensures offset { λ r. ⌜ made r (λ _. now (cursor .exit) .offset ≡ now (cursor .entry) .offset + 3) ⌝ }
+    ensures bytes { λ _. ⌜ now (now (cursor .exit) .bytes) ≡ now (now (cursor .entry) .bytes) ⌝ }
+{
+    cursor.begin_item(number);
+    let sort = take_sort(cursor)?;
+    let output = cursor.take_u16()?;
+    Ok(State { sort, output })
+}
+
+// The link at the cursor, with this number, in a file of `size` states; its item is one more.
+fn read_link(cursor: &mut Cursor, number: u16, size: usize) -> Result<Link, LinksFault>
+    requires { ⌜ number < 4096 ⌝ }
+    ensures value { λ r. ⌜ r ≡ linkAt size (now (now (cursor .entry) .bytes)) (now (cursor .entry) .offset) (number + 1) ⌝ }
+    ensures offset { λ r. ⌜ made r (λ _. now (cursor .exit) .offset ≡ now (cursor .entry) .offset + 9) ⌝ }
+    ensures bytes { λ _. ⌜ now (now (cursor .exit) .bytes) ≡ now (now (cursor .entry) .bytes) ⌝ }
+{
+    cursor.begin_item(number);
+    let source = take_source(cursor, size)?;
+    let label = take_label(cursor)?;
+    let weight = cursor.take_i32()?;
+    let target = take_target(cursor, size)?;
     Ok(Link {
         source,
         label,
@@ -80,9 +124,8 @@ fn read_states(cursor: &mut Cursor, chart: &mut Chart, count: u16) -> Result<(),
     requires none { ⌜ systemOf (now chart) ≡ noSystem ⌝ }
     ensures { λ r. ⌜ Follows (statesFrom (now (now (cursor .entry) .bytes)) 2 1 [] count) r (λ states. (systemOf (now (chart .exit)) ≡ record { states = states; links = [] }) × (now (cursor .exit) .offset ≡ statesEnd (length states)) × (now (now (cursor .exit) .bytes) ≡ now (now (cursor .entry) .bytes))) ⌝ }
 {
-    for index in 0..count {
-        cursor.begin(index + 1);
-        let state = read_state(cursor)?;
+    for number in 0..count {
+        let state = read_state(cursor, number)?;
         // checked already, so it is not refused
         let _ = chart.add_state(state);
     }
@@ -97,8 +140,7 @@ fn read_links(cursor: &mut Cursor, chart: &mut Chart, count: u16) -> Result<(), 
 {
     let size = chart.states().len();
     for number in 0..count {
-        cursor.begin(number + 1);
-        let link = read_link(cursor, size)?;
+        let link = read_link(cursor, number, size)?;
         // checked already, so it is not refused
         let _ = chart.add_link(link);
     }
@@ -140,7 +182,7 @@ fn read_file(bytes: &[u8], chart: &mut Chart) -> Result<(), TableFault>
 {
     let mut cursor = Cursor::new(bytes);
     states_section(&mut cursor, chart)?;
-    cursor.begin(0);
+    cursor.begin_count();
     links_section(&mut cursor, chart)?;
     let end = cursor.place().offset;
     if end < bytes.len() {

@@ -41,6 +41,9 @@ mod tests {
         check_eq(weigh_list(&pile, 1, 57, &[2, 3]), 1)?;
         check_eq(weigh_list(&pile, 1, 58, &[2, 3]), 3)?;
         check_eq(weigh_list(&Blind, 0, 0, &[7]), 0)?;
-        check_eq(weigh_list(&Sum, 0, 0, &[i32::MIN, i32::MIN]), -4_294_967_296)
+        check_eq(
+            weigh_list(&Sum, 0, 0, &[i32::MIN, i32::MIN]),
+            -4_294_967_296,
+        )
     }
 }

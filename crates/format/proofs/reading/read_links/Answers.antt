@@ -17,7 +17,6 @@ use Rattle.format.proofs.reading.read_links.Needs as need
 pub returns-in-Break-link : need.returns-in-Break-link
 returns-in-Break-link c =
     let p = c .in-Break-link .ensures tt in
-    let b = c .begin .ensures in
     let inv = c .loop-number .inv in
     let n : ℕ = size (systemOf (c .args .chart .now)) in
     let bytes = c .args .cursor .now .bytes .now in
@@ -25,7 +24,7 @@ returns-in-Break-link c =
     let f = c .in-Break-link .field-0 .0 in
     let e = err-from-errBy (c .from-residual .result) (c .from-residual .ensures .1) in
     let many : length (c .states-size .result .now) ≡ n = ap (λ ss. length ss) (c .states-size .ensures) in
-    let read : Err f ≡ linkAt n bytes at (c .loop-number .number + 1) = p .value ∙ ap (λ m. linkAt m (c .begin .last .self .bytes .now) (c .begin .last .self .offset) (c .begin .last .self .item)) many ∙ at-place (linkAt n) (b .same .0 ∙ inv .4) (b .same .1) (b .item) in
+    let read : Err f ≡ linkAt n bytes at (c .loop-number .number + 1) = p .value ∙ ap (λ m. linkAt m (c .loop-number .cursor .bytes .now) at (c .loop-number .number + 1)) many ∙ at-place (linkAt n) (inv .4) refl refl in
     follows-stop (linksFrom n bytes (c .args .cursor .now .offset) 1 [] (c .args .count)) (c .from-residual .result) _ f
     (sym (inv .0) ∙ links-stop n bytes at (c .loop-number .number + 1) (systemOf (c .loop-number .chart) .links) (c .args .count - c .loop-number .number) (c .args .count - (c .loop-number .number + 1)) f (omega arith) (sym read))
     (e .1 ∙ ap Err (e .2))
@@ -33,7 +32,6 @@ returns-in-Break-link c =
 pub loop-number-again : need.loop-number-again
 loop-number-again c =
     let p = c .in-Continue-link .ensures tt in
-    let b = c .begin .ensures in
     let inv = c .loop-number .inv in
     let n : ℕ = size (systemOf (c .args .chart .now)) in
     let bytes = c .args .cursor .now .bytes .now in
@@ -42,10 +40,9 @@ loop-number-again c =
     let k = c .in-Continue-link .link in
     let t : System = systemOf (c .loop-number .chart) in
     let t′ : System = systemOf (c .add-link .last .self) in
-    let same = b .same .0 ∙ inv .4 in
     let many : length (c .states-size .result .now) ≡ n = ap (λ ss. length ss) (c .states-size .ensures) in
-    let read : Ok k ≡ linkAt n bytes at (i + 1) = p .value ∙ ap (λ m. linkAt m (c .begin .last .self .bytes .now) (c .begin .last .self .offset) (c .begin .last .self .item)) many ∙ at-place (linkAt n) same (b .same .1) (b .item) in
-    let next : c .read-link .last .cursor .offset ≡ at + 9 = p .offset ∙ ap (λ o. o + 9) (b .same .1) in
+    let read : Ok k ≡ linkAt n bytes at (i + 1) = p .value ∙ ap (λ m. linkAt m (c .loop-number .cursor .bytes .now) at (c .loop-number .number + 1)) many ∙ at-place (linkAt n) (inv .4) refl refl in
+    let next : c .read-link .last .cursor .offset ≡ at + 9 = p .offset in
     let low = link-low n bytes at (i + 1) k (sym read) in
     let states : size t ≡ n = ap (λ ss. length ss) (inv .3) in
     let added : t′ ≡ withLink t k = link-added t t′ k (c .add-link .result) (omega (arith, inv .2)) (omega (arith, states, low .0), low .1, omega (arith, states, low .2)) (c .add-link .ensures .answer) (c .add-link .ensures .after) in (
@@ -55,5 +52,5 @@ loop-number-again c =
       omega (arith, next, inv .1),
       ap (λ u. length (u .links)) added ∙ length-push (t .links) k ∙ ap (λ m. m + 1) (inv .2),
       ap (λ u. u .states) added ∙ inv .3,
-      p .bytes ∙ same,
+      p .bytes ∙ inv .4,
     )

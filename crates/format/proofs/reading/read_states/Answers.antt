@@ -17,31 +17,28 @@ use Rattle.format.proofs.reading.read_states.Needs as need
 pub returns-in-Break-state : need.returns-in-Break-state
 returns-in-Break-state c =
     let p = c .in-Break-state .ensures tt in
-    let b = c .begin .ensures in
-    let inv = c .loop-index .inv in
+    let inv = c .loop-number .inv in
     let bytes = c .args .cursor .now .bytes .now in
-    let at = c .loop-index .cursor .offset in
+    let at = c .loop-number .cursor .offset in
     let f = c .in-Break-state .field-0 .0 in
     let e = err-from-errBy (c .from-residual .result) (c .from-residual .ensures .1) in
-    let read : Err f ≡ stateAt bytes at (c .loop-index .index + 1) = p .value ∙ at-place stateAt (b .same .0 ∙ inv .4) (b .same .1) (b .item) in
+    let read : Err f ≡ stateAt bytes at (c .loop-number .number + 1) = p .value ∙ at-place stateAt (inv .4) refl refl in
     follows-stop (statesFrom bytes 2 1 [] (c .args .count)) (c .from-residual .result) _ f
-    (sym (inv .0) ∙ states-stop bytes at (c .loop-index .index + 1) (systemOf (c .loop-index .chart) .states) (c .args .count - c .loop-index .index) (c .args .count - (c .loop-index .index + 1)) f (omega arith) (sym read))
+    (sym (inv .0) ∙ states-stop bytes at (c .loop-number .number + 1) (systemOf (c .loop-number .chart) .states) (c .args .count - c .loop-number .number) (c .args .count - (c .loop-number .number + 1)) f (omega arith) (sym read))
     (e .1 ∙ ap Err (e .2))
 
-pub loop-index-again : need.loop-index-again
-loop-index-again c =
+pub loop-number-again : need.loop-number-again
+loop-number-again c =
     let p = c .in-Continue-state .ensures tt in
-    let b = c .begin .ensures in
-    let inv = c .loop-index .inv in
+    let inv = c .loop-number .inv in
     let bytes = c .args .cursor .now .bytes .now in
-    let at = c .loop-index .cursor .offset in
-    let i = c .loop-index .index in
+    let at = c .loop-number .cursor .offset in
+    let i = c .loop-number .number in
     let s = c .in-Continue-state .state in
-    let t : System = systemOf (c .loop-index .chart) in
+    let t : System = systemOf (c .loop-number .chart) in
     let t′ : System = systemOf (c .add-state .last .self) in
-    let same = b .same .0 ∙ inv .4 in
-    let read : Ok s ≡ stateAt bytes at (i + 1) = p .value ∙ at-place stateAt same (b .same .1) (b .item) in
-    let next : c .read-state .last .cursor .offset ≡ at + 3 = p .offset ∙ ap (λ o. o + 3) (b .same .1) in
+    let read : Ok s ≡ stateAt bytes at (i + 1) = p .value ∙ at-place stateAt (inv .4) refl refl in
+    let next : c .read-state .last .cursor .offset ≡ at + 3 = p .offset in
     let added : t′ ≡ withState t s = state-added t t′ s (c .add-state .result) (omega (arith, inv .2)) (state-low bytes at (i + 1) s (sym read)) (c .add-state .ensures .answer) (c .add-state .ensures .after) in (
       ap (λ o. statesFrom bytes o (i + 1 + 1) (t′ .states) (c .args .count - (i + 1))) next
           ∙ ap (λ u. statesFrom bytes (at + 3) (i + 1 + 1) (u .states) (c .args .count - (i + 1))) added
@@ -49,5 +46,5 @@ loop-index-again c =
       omega (arith, next, inv .1),
       ap (λ u. length (u .states)) added ∙ length-push (t .states) s ∙ ap (λ n. n + 1) (inv .2),
       ap (λ u. u .links) added ∙ inv .3,
-      p .bytes ∙ same,
+      p .bytes ∙ inv .4,
     )

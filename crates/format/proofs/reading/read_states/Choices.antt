@@ -7,10 +7,10 @@ use Rattle.format.specs.Walk.{statesFrom}
 use Rattle.format.proofs.reading.read_states.Given as given
 
 -- what is left gives the answer for all
-abbrev pub Inv-loop-index : given.InvT-loop-index
-Inv-loop-index l =
-    (statesFrom (l .entry .cursor .bytes .now) (l .cursor .offset) (l .index + 1) (systemOf (l .chart) .states) (l .count - l .index) ≡ statesFrom (l .entry .cursor .bytes .now) 2 1 [] (l .count))
-    × (l .cursor .offset ≡ 2 + 3 * l .index)
-    × (length (systemOf (l .chart) .states) ≡ l .index)
+abbrev pub Inv-loop-number : given.InvT-loop-number
+Inv-loop-number l =
+    (statesFrom (l .entry .cursor .bytes .now) (l .cursor .offset) (l .number + 1) (systemOf (l .chart) .states) (l .count - l .number) ≡ statesFrom (l .entry .cursor .bytes .now) 2 1 [] (l .count))
+    × (l .cursor .offset ≡ 2 + 3 * l .number)
+    × (length (systemOf (l .chart) .states) ≡ l .number)
     × (systemOf (l .chart) .links ≡ [])
     × (l .cursor .bytes .now ≡ l .entry .cursor .bytes .now)
