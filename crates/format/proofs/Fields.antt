@@ -1,16 +1,16 @@
 -- What a field holds, byte by byte.
 use mathlib.Core.Path.{_≡_, refl, sym, ap, ap₂, _∙_}
 use mathlib.Core.Bool.{Bool, true, false, cond}
-use mathlib.Core.List.{List, [], _∷_}
+use mathlib.Core.List.{List}
 use Prim.Native.Nat.{ℕ, suc, _+_, _*_, _<_, _≤_}
 use native.Mathlib.Omega.{arith}
 use lib.Dec.{leb}
 use lib.ListN.{length, getD, take, drop}
-use Rattle.std.specs.declared.result.Result.{Result}
 use Rattle.std.specs.declared.result.Result.the-variants.{Ok, Err}
 use Rattle.std.proofs.shelf.Lists.{drop-more}
 use Rattle.std.proofs.shelf.Tests.{leb-true, le-leb}
-use Rattle.format.specs.Walk.{numeral, fieldAt, startOf}
+use Rattle.format.specs.Walk.{numeral, fieldAt}
+use Rattle.format.specs.Steps.{startOf}
 use Rattle.fault.specs.declared.ByteFault.{ByteFault}
 
 short : ℕ → ℕ → ByteFault

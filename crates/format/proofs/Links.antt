@@ -3,9 +3,7 @@ use mathlib.Core.Path.{_≡_}
 use mathlib.Core.List.{List}
 use Prim.Native.Nat.{ℕ, _+_}
 use lib.IntN.{ℤ}
-use Rattle.std.specs.declared.result.Result.{Result}
-use Rattle.std.specs.declared.result.Result.the-variants.{Ok, Err}
-use Rattle.table.specs.declared.parts.Link.{Link}
+use Rattle.std.specs.declared.result.Result.the-variants.{Ok}
 use Rattle.format.specs.Walk.{fieldAt, signedOf, sourceAt, labelAt, targetAt, linkAt}
 
 pub link-read : (n : ℕ) (bytes : List ℕ) (at item source label : ℕ) (weight : ℤ) (target : ℕ) →

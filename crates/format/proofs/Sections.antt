@@ -1,6 +1,5 @@
 -- One state or link more of a section.
-use mathlib.Core.Path.{_≡_, refl, sym, ap, subst, _∙_}
-use mathlib.Core.Bool.{Bool, true, false, cond}
+use mathlib.Core.Path.{_≡_, sym, ap, subst, _∙_}
 use mathlib.Core.List.{List, [], _∷_, _++_}
 use Prim.Native.Nat.{ℕ, suc, _+_, _<_, _≤_}
 use native.Mathlib.Omega.{arith}
@@ -10,11 +9,11 @@ use Rattle.std.specs.declared.result.Result.{Result}
 use Rattle.std.specs.declared.result.Result.the-variants.{Ok, Err}
 use Rattle.std.proofs.shelf.Tests.{ltb-false, leb-false, lt-leb, le-ltb}
 use Rattle.table.specs.System.{System, size}
-use Rattle.table.specs.Charts.{systemOf, stateAnswer, linkAnswer, withState, withLink, afterwards}
+use Rattle.table.specs.Charts.{stateAnswer, linkAnswer, withState, withLink, afterwards}
 use Rattle.table.specs.declared.parts.State.{State}
 use Rattle.table.specs.declared.parts.Link.{Link}
 use Rattle.table.specs.declared.parts.Refusal.{Refusal}
-use Rattle.format.specs.Answers.{Follows}
+use Rattle.format.specs.Steps.{Follows}
 use Rattle.format.specs.Walk.{andThen, fieldAt, signedOf, sortAt, stateAt, statesFrom, sourceAt, labelAt, targetAt, linkAt, linksFrom}
 use Rattle.fault.specs.declared.StatesFault.{StatesFault}
 use Rattle.fault.specs.declared.StatesFault.the-variants.{Cut as StatesCut}

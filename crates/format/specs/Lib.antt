@@ -1,3 +1,4 @@
 pub mod Walk
 pub mod Encode
 pub mod Answers
+pub mod Steps

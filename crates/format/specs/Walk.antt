@@ -1,5 +1,4 @@
 -- Reading a file field by field: each field is checked as soon as it is taken.
-use mathlib.Core.Path.{_≡_}
 use mathlib.Core.Bool.{Bool, cond}
 use mathlib.Core.List.{List, [], _∷_, _++_}
 use Prim.Native.Nat.{ℕ, zero, suc, _+_, _*_}
@@ -40,18 +39,9 @@ fieldAt width bytes at item =
 abbrev pub allowed : {F : Type 0} → (ByteFault → F) → (ℕ → Bool) → F → Result ℕ ByteFault → Result ℕ F
 allowed up wrong fault r = andThen up r (λ v. cond (wrong v) (Err fault) (Ok v))
 
--- where such a field begins, if it is whole
-abbrev pub startOf : ℕ → List ℕ → ℕ → ℕ → Result ℕ ByteFault
-startOf width bytes at item = cond (leb (at + width) (length bytes)) (Ok at) (Err (record { place = record { offset = at; item = item } }))
-
 -- four bytes in two's complement
 abbrev pub signedOf : Result ℕ ByteFault → Result ℤ ByteFault
 signedOf r = andThen (λ f. f) r (λ v. Ok (toZ w32 v))
-
--- a cursor goes past a field that is whole
-abbrev pub advanced : {X Y : Type 0} → Result X Y → ℕ → ℕ → ℕ
-advanced (Ok x) at width = at + width
-advanced (Err f) at width = at
 
 -- a sort is at most 3
 abbrev pub sortAt : List ℕ → ℕ → ℕ → Result ℕ StatesFault

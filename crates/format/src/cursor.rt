@@ -1,7 +1,8 @@
 //! The layer of bytes: fields of one, two and four bytes, the lowest byte first.
 ghost use mathlib.Core.Path.{_≡_};
 ghost use Prim.Native.Nat.{_+_, _<_};
-ghost use Rattle.format.specs.Walk.{fieldAt, startOf, signedOf, advanced};
+ghost use Rattle.format.specs.Walk.{fieldAt, signedOf};
+ghost use Rattle.format.specs.Steps.{startOf, advanced};
 use fault::ByteFault;
 use fault::Place;
 

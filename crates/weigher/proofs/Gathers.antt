@@ -6,7 +6,7 @@ use native.Mathlib.Omega.{arith}
 use lib.ListN.{length, getD, set}
 use Rattle.std.specs.Slices.{Shuffled, exchanged}
 use Rattle.std.proofs.shelf.Sorted.{shuffled-keeps, shuffled-cons, shuffled-refl, shuffled-trans, shuffled-swap, shuffled-to-front}
-use Rattle.std.proofs.shelf.Lists.{append-assoc, append-nil}
+use Rattle.std.proofs.shelf.Lists.{append-nil}
 
 -- the front behind the back
 pub shuffled-append : {X : Type 0} (u v : List X) → Shuffled (u ++ v) (v ++ u)

@@ -1,5 +1,4 @@
 //! The layers: two weighers, with one in charge.
-ghost use mathlib.Core.Path.{_≡_};
 ghost use Prim.Native.Nat.{_-_};
 ghost use lib.Dec.{ltb, eqb};
 ghost use Rattle.weigher.specs.Weighers.{byLabel, bySort};

@@ -1,6 +1,5 @@
 //! The weighers that stand alone.
 ghost use mathlib.Core.Path.{_≡_};
-ghost use lib.IntN.{pos};
 ghost use Rattle.std.specs.Numbers.{maxZ};
 ghost use Rattle.weigher.specs.Weighers.{reach, sum, greatest, blind, most};
 ghost use Rattle.weigher.specs.Loads.{some};

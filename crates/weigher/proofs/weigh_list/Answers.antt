@@ -1,10 +1,8 @@
 use borrow.Author.Needs.{needs}
-use mathlib.Core.Path.{_≡_, sym, _∙_, ap}
-use mathlib.Core.List.{List, [], _∷_, _++_}
-use Prim.Native.Nat.{_+_}
+use mathlib.Core.Path.{_≡_, _∙_}
 use lib.ListN.{take, getD}
-use lib.IntN.{ℤ, pos}
-use mir.Val.{SFits, toZ, ofZ}
+use lib.IntN.{pos}
+use mir.Val.{SFits}
 use mir.Syntax.{w32, w64}
 use Rattle.std.proofs.shelf.Lists.{take-more, take-all}
 use Rattle.std.proofs.shelf.Signed.{toZ-ofZ}

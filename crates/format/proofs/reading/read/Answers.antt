@@ -1,6 +1,5 @@
 use borrow.Author.Needs.{needs}
 use mathlib.Core.Path.{_≡_}
-use Rattle.table.specs.System.{System}
 use Rattle.table.specs.Charts.{systemOf}
 use Rattle.format.specs.Answers.{answerOf, systemIn}
 use Rattle.format.specs.Walk.{decode}

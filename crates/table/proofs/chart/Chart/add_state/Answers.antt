@@ -1,5 +1,4 @@
 use borrow.Author.Needs.{needs}
-use native.Mathlib.Omega.{arith}
 use Prim.Native.Nat.{_<_, _^_}
 use Rattle.std.specs.Of.Vec.{vec-items, vec-len}
 use Rattle.table.proofs.Shapes.{every-pushed, every-below}
