@@ -16,7 +16,7 @@ use Rattle.std.proofs.shelf.Lists.{append-assoc, append-nil, length-append}
 use Rattle.std.proofs.shelf.Signed.{ofZ-toZ, toZ-ofZ}
 use Rattle.std.proofs.shelf.Tests.{leb-false, ltb-false, lt-leb, le-ltb}
 use Rattle.table.specs.System.{LawfulState, LawfulLink}
-use Rattle.format.specs.Walk.{andThen, allowed, fieldAt, signedOf, sortAt, stateAt, statesFrom, statesSection, sourceAt, labelAt, targetAt, linkAt, linksFrom, linksSection}
+use Rattle.format.specs.Walk.{andThen, allowed, fieldAt, signedOf, sortAt, stateFields, stateItems, statesSection, sourceAt, labelAt, targetAt, linkFields, linkItems, linksSection}
 use Rattle.format.specs.Encode.{bytesOf, stateBytes, linkBytes}
 use Rattle.fault.specs.declared.ByteFault.{ByteFault}
 use Rattle.fault.specs.declared.StatesFault.the-variants.{Cut as StatesCut}
@@ -85,7 +85,7 @@ module _ (bytes : List ℕ) {X E : Type 0} (step : ℕ → ℕ → Result X E) (
   }
 
 module _ (bytes : List ℕ) (all : All Byte bytes) where
-  reads-state : Reads bytes (stateAt bytes) stateBytes 3 LawfulState
+  reads-state : Reads bytes (stateFields bytes) stateBytes 3 LawfulState
   reads-state = record {
     sound = λ at item x h.
         first-read (λ f. f) (sortAt bytes at item) _ x h λ sort s h.
@@ -102,7 +102,7 @@ module _ (bytes : List ℕ) (all : All Byte bytes) where
     sized = λ x. refl;
   }
 
-  reads-link : (n : ℕ) → n ≤ 1024 → Reads bytes (linkAt n bytes) linkBytes 9 (LawfulLink n)
+  reads-link : (n : ℕ) → n ≤ 1024 → Reads bytes (linkFields n bytes) linkBytes 9 (LawfulLink n)
   reads-link n small = record {
     sound = λ at item x h.
         first-read (λ f. f) (sourceAt n bytes at item) _ x h λ source s h.
@@ -150,8 +150,8 @@ module _ (bytes : List ℕ) (all : All Byte bytes) where
 
   pub states-section : Section bytes (statesSection bytes) stateBytes 3 1024 0 LawfulState
   states-section =
-      section bytes (stateAt bytes) stateBytes 3 LawfulState reads-state (statesFrom bytes) (λ _ _ _. refl) (λ _ _ _ _. refl) all StatesCut 1024 0 _ (omega arith)
+      section bytes (stateFields bytes) stateBytes 3 LawfulState reads-state (stateItems bytes) (λ _ _ _. refl) (λ _ _ _ _. refl) all StatesCut 1024 0 _ (omega arith)
 
   pub links-section : (n at : ℕ) → n ≤ 1024 → Section bytes (linksSection n bytes at) linkBytes 9 4096 at (LawfulLink n)
   links-section n at small =
-      section bytes (linkAt n bytes) linkBytes 9 (LawfulLink n) (reads-link n small) (linksFrom n bytes) (λ _ _ _. refl) (λ _ _ _ _. refl) all LinksCut 4096 at _ (omega arith)
+      section bytes (linkFields n bytes) linkBytes 9 (LawfulLink n) (reads-link n small) (linkItems n bytes) (λ _ _ _. refl) (λ _ _ _ _. refl) all LinksCut 4096 at _ (omega arith)

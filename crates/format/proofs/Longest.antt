@@ -10,7 +10,7 @@ use Rattle.std.specs.declared.result.Result.{Result}
 use Rattle.std.specs.declared.result.Result.the-variants.{Ok, Err}
 use Rattle.std.proofs.shelf.Lists.{drop-append-le, length-append, length-drop, length-push, take-append-le}
 use Rattle.std.proofs.shelf.Tests.{ltb-false, lt-ltb}
-use Rattle.format.specs.Walk.{numeral, andThen, allowed, fieldAt, stateAt, statesFrom, statesSection, statesEnd, linkAt, linksFrom, linksSection, linksEnd, decode}
+use Rattle.format.specs.Walk.{numeral, andThen, allowed, fieldAt, stateFields, stateItems, statesSection, statesEnd, linkFields, linkItems, linksSection, linksEnd, decode}
 use Rattle.fault.specs.declared.ByteFault.{ByteFault}
 use Rattle.fault.specs.declared.StatesFault.the-variants.{Cut as StatesCut}
 use Rattle.fault.specs.declared.LinksFault.the-variants.{Cut as LinksCut}
@@ -30,10 +30,10 @@ module _ (bytes more : List ℕ) where
       ∙ ap (λ xs. Ok (numeral xs)) (rw (drop-append-le at bytes more (omega arith), take-append-le w (drop at bytes) more (omega (arith, length-drop at bytes))))
       ∙ sym (whole w bytes at item h)
 
-  state-same : (at item : ℕ) → at + 3 ≤ length bytes → stateAt (bytes ++ more) at item ≡ stateAt bytes at item
+  state-same : (at item : ℕ) → at + 3 ≤ length bytes → stateFields (bytes ++ more) at item ≡ stateFields bytes at item
   state-same at item h = rw (field-same 1 at item (omega arith), field-same 2 (at + 1) item (omega arith))
 
-  link-same : (n at item : ℕ) → at + 9 ≤ length bytes → linkAt n (bytes ++ more) at item ≡ linkAt n bytes at item
+  link-same : (n at item : ℕ) → at + 9 ≤ length bytes → linkFields n (bytes ++ more) at item ≡ linkFields n bytes at item
   link-same n at item h =
       rw (field-same 2 at item (omega arith), field-same 1 (at + 2) item (omega arith), field-same 4 (at + 3) item (omega arith), field-same 2 (at + 7) item (omega arith))
 
@@ -70,11 +70,11 @@ module _ (bytes more : List ℕ) where
 
 pub longest : (bytes more : List ℕ) → 39940 < length bytes → decode (bytes ++ more) ≡ decode bytes
 longest bytes more h =
-    let s = section-same bytes more 3 stateAt (state-same bytes more) statesFrom (λ _ _ _ _. refl) (λ _ _ _ _ _. refl) StatesCut 1024 0 _ (omega arith) in
+    let s = section-same bytes more 3 stateFields (state-same bytes more) stateItems (λ _ _ _ _. refl) (λ _ _ _ _ _. refl) StatesCut 1024 0 _ (omega arith) in
     then-same States (statesSection (bytes ++ more)) (statesSection bytes) _ _ (s .0) λ states a.
     let n : ℕ = length states in
     let few : n ≤ 1024 = s .1 states a in
-    let k = section-same bytes more 9 (linkAt n) (link-same bytes more n) (linksFrom n) (λ _ _ _ _. refl) (λ _ _ _ _ _. refl) LinksCut 4096 (statesEnd n) _ (omega arith) in
+    let k = section-same bytes more 9 (linkFields n) (link-same bytes more n) (linkItems n) (λ _ _ _ _. refl) (λ _ _ _ _ _. refl) LinksCut 4096 (statesEnd n) _ (omega arith) in
     then-same Links (linksSection n (bytes ++ more) (statesEnd n)) (linksSection n bytes (statesEnd n)) _ _ (k .0) λ links b.
     let end : ℕ = linksEnd n (length links) in
     let short : end ≤ 39940 = omega (arith, k .1 links b) in

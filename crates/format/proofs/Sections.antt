@@ -14,7 +14,7 @@ use Rattle.table.specs.declared.parts.State.{State}
 use Rattle.table.specs.declared.parts.Link.{Link}
 use Rattle.table.specs.declared.parts.Refusal.{Refusal}
 use Rattle.format.specs.Steps.{Follows}
-use Rattle.format.specs.Walk.{andThen, fieldAt, signedOf, sortAt, stateAt, statesFrom, sourceAt, labelAt, targetAt, linkAt, linksFrom}
+use Rattle.format.specs.Walk.{andThen, fieldAt, signedOf, sortAt, stateFields, stateItems, sourceAt, labelAt, targetAt, linkFields, linkItems}
 use Rattle.fault.specs.declared.StatesFault.{StatesFault}
 use Rattle.fault.specs.declared.StatesFault.the-variants.{Cut as StatesCut}
 use Rattle.fault.specs.declared.LinksFault.{LinksFault}
@@ -22,13 +22,13 @@ use Rattle.fault.specs.declared.LinksFault.the-variants.{Cut as LinksCut}
 use Rattle.format.proofs.Bytes.{first-read, allowed-is}
 
 module _ (bytes : List ℕ) (at item : ℕ) where
-  pub states-step : (acc : List State) (n k : ℕ) (s : State) → n ≡ suc k → stateAt bytes at item ≡ Ok s → statesFrom bytes at item acc n ≡ statesFrom bytes (at + 3) (item + 1) (acc ++ (s ∷ [])) k
-  states-step acc n k s e h = ap (statesFrom bytes at item acc) e ∙ ap (λ r. andThen (λ f. f) r (λ x. statesFrom bytes (at + 3) (item + 1) (acc ++ (x ∷ [])) k)) h
+  pub states-step : (acc : List State) (n k : ℕ) (s : State) → n ≡ suc k → stateFields bytes at item ≡ Ok s → stateItems bytes at item acc n ≡ stateItems bytes (at + 3) (item + 1) (acc ++ (s ∷ [])) k
+  states-step acc n k s e h = ap (stateItems bytes at item acc) e ∙ ap (λ r. andThen (λ f. f) r (λ x. stateItems bytes (at + 3) (item + 1) (acc ++ (x ∷ [])) k)) h
 
-  pub states-stop : (acc : List State) (n k : ℕ) (f : StatesFault) → n ≡ suc k → stateAt bytes at item ≡ Err f → statesFrom bytes at item acc n ≡ Err f
-  states-stop acc n k f e h = ap (statesFrom bytes at item acc) e ∙ ap (λ r. andThen (λ g. g) r (λ x. statesFrom bytes (at + 3) (item + 1) (acc ++ (x ∷ [])) k)) h
+  pub states-stop : (acc : List State) (n k : ℕ) (f : StatesFault) → n ≡ suc k → stateFields bytes at item ≡ Err f → stateItems bytes at item acc n ≡ Err f
+  states-stop acc n k f e h = ap (stateItems bytes at item acc) e ∙ ap (λ r. andThen (λ g. g) r (λ x. stateItems bytes (at + 3) (item + 1) (acc ++ (x ∷ [])) k)) h
 
-  pub state-low : (s : State) → stateAt bytes at item ≡ Ok s → s .sort < 4
+  pub state-low : (s : State) → stateFields bytes at item ≡ Ok s → s .sort < 4
   state-low s e =
       first-read (λ f. f) (sortAt bytes at item) _ s e λ sort a e.
       first-read StatesCut (fieldAt 2 bytes (at + 1) item) _ s e λ output b e.
@@ -42,13 +42,13 @@ state-added t t′ s r few low e a =
     a ∙ ap (λ q. afterwards q t (withState t s)) (e ∙ ok)
 
 module _ (n : ℕ) (bytes : List ℕ) (at item : ℕ) where
-  pub links-step : (acc : List Link) (m k : ℕ) (l : Link) → m ≡ suc k → linkAt n bytes at item ≡ Ok l → linksFrom n bytes at item acc m ≡ linksFrom n bytes (at + 9) (item + 1) (acc ++ (l ∷ [])) k
-  links-step acc m k l e h = ap (linksFrom n bytes at item acc) e ∙ ap (λ r. andThen (λ f. f) r (λ x. linksFrom n bytes (at + 9) (item + 1) (acc ++ (x ∷ [])) k)) h
+  pub links-step : (acc : List Link) (m k : ℕ) (l : Link) → m ≡ suc k → linkFields n bytes at item ≡ Ok l → linkItems n bytes at item acc m ≡ linkItems n bytes (at + 9) (item + 1) (acc ++ (l ∷ [])) k
+  links-step acc m k l e h = ap (linkItems n bytes at item acc) e ∙ ap (λ r. andThen (λ f. f) r (λ x. linkItems n bytes (at + 9) (item + 1) (acc ++ (x ∷ [])) k)) h
 
-  pub links-stop : (acc : List Link) (m k : ℕ) (f : LinksFault) → m ≡ suc k → linkAt n bytes at item ≡ Err f → linksFrom n bytes at item acc m ≡ Err f
-  links-stop acc m k f e h = ap (linksFrom n bytes at item acc) e ∙ ap (λ r. andThen (λ g. g) r (λ x. linksFrom n bytes (at + 9) (item + 1) (acc ++ (x ∷ [])) k)) h
+  pub links-stop : (acc : List Link) (m k : ℕ) (f : LinksFault) → m ≡ suc k → linkFields n bytes at item ≡ Err f → linkItems n bytes at item acc m ≡ Err f
+  links-stop acc m k f e h = ap (linkItems n bytes at item acc) e ∙ ap (λ r. andThen (λ g. g) r (λ x. linkItems n bytes (at + 9) (item + 1) (acc ++ (x ∷ [])) k)) h
 
-  pub link-low : (l : Link) → linkAt n bytes at item ≡ Ok l → (l .source < n) × (l .label ≤ 63) × (l .target < n)
+  pub link-low : (l : Link) → linkFields n bytes at item ≡ Ok l → (l .source < n) × (l .label ≤ 63) × (l .target < n)
   link-low l e =
       first-read (λ f. f) (sourceAt n bytes at item) _ l e λ source a e.
       first-read (λ f. f) (labelAt bytes (at + 2) item) _ l e λ label b e.

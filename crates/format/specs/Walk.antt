@@ -48,21 +48,21 @@ abbrev pub sortAt : List ℕ → ℕ → ℕ → Result ℕ StatesFault
 sortAt bytes at item = allowed StatesCut (ltb 3) (Sort (record { offset = at; item = item })) (fieldAt 1 bytes at item)
 
 -- a state: sort and output
-abbrev pub stateAt : List ℕ → ℕ → ℕ → Result State StatesFault
-stateAt bytes at item =
+abbrev pub stateFields : List ℕ → ℕ → ℕ → Result State StatesFault
+stateFields bytes at item =
     andThen (λ f. f) (sortAt bytes at item) (λ sort.
     andThen StatesCut (fieldAt 2 bytes (at + 1) item) (λ output.
     Ok (record { sort = sort; output = output })))
 
 -- so many states more, from an offset and an item on, behind those that were read
-abbrev pub statesFrom : List ℕ → ℕ → ℕ → List State → ℕ → Result (List State) StatesFault
-statesFrom bytes at item states zero = Ok states
-statesFrom bytes at item states (suc left) = andThen (λ f. f) (stateAt bytes at item) (λ s. statesFrom bytes (at + 3) (item + 1) (states ++ (s ∷ [])) left)
+abbrev pub stateItems : List ℕ → ℕ → ℕ → List State → ℕ → Result (List State) StatesFault
+stateItems bytes at item states zero = Ok states
+stateItems bytes at item states (suc left) = andThen (λ f. f) (stateFields bytes at item) (λ s. stateItems bytes (at + 3) (item + 1) (states ++ (s ∷ [])) left)
 
 -- at most 1,024 states, after their count
 abbrev pub statesSection : List ℕ → Result (List State) StatesFault
 statesSection bytes =
-    andThen (λ f. f) (allowed StatesCut (ltb 1024) (StatesCount (record { offset = 0; item = 0 })) (fieldAt 2 bytes 0 0)) (statesFrom bytes 2 1 [])
+    andThen (λ f. f) (allowed StatesCut (ltb 1024) (StatesCount (record { offset = 0; item = 0 })) (fieldAt 2 bytes 0 0)) (stateItems bytes 2 1 [])
 
 -- a source and a target are among n states, and a label is at most 63
 abbrev pub sourceAt : ℕ → List ℕ → ℕ → ℕ → Result ℕ LinksFault
@@ -75,22 +75,22 @@ abbrev pub targetAt : ℕ → List ℕ → ℕ → ℕ → Result ℕ LinksFault
 targetAt n bytes at item = allowed LinksCut (leb n) (Target (record { offset = at; item = item })) (fieldAt 2 bytes at item)
 
 -- a link: source, label, weight and target
-abbrev pub linkAt : ℕ → List ℕ → ℕ → ℕ → Result Link LinksFault
-linkAt n bytes at item =
+abbrev pub linkFields : ℕ → List ℕ → ℕ → ℕ → Result Link LinksFault
+linkFields n bytes at item =
     andThen (λ f. f) (sourceAt n bytes at item) (λ source.
     andThen (λ f. f) (labelAt bytes (at + 2) item) (λ label.
     andThen LinksCut (signedOf (fieldAt 4 bytes (at + 3) item)) (λ weight.
     andThen (λ f. f) (targetAt n bytes (at + 7) item) (λ target.
     Ok (record { source = source; label = label; weight = weight; target = target })))))
 
-abbrev pub linksFrom : ℕ → List ℕ → ℕ → ℕ → List Link → ℕ → Result (List Link) LinksFault
-linksFrom n bytes at item links zero = Ok links
-linksFrom n bytes at item links (suc left) = andThen (λ f. f) (linkAt n bytes at item) (λ k. linksFrom n bytes (at + 9) (item + 1) (links ++ (k ∷ [])) left)
+abbrev pub linkItems : ℕ → List ℕ → ℕ → ℕ → List Link → ℕ → Result (List Link) LinksFault
+linkItems n bytes at item links zero = Ok links
+linkItems n bytes at item links (suc left) = andThen (λ f. f) (linkFields n bytes at item) (λ k. linkItems n bytes (at + 9) (item + 1) (links ++ (k ∷ [])) left)
 
 -- at most 4,096 links, after their count
 abbrev pub linksSection : ℕ → List ℕ → ℕ → Result (List Link) LinksFault
 linksSection n bytes at =
-    andThen (λ f. f) (allowed LinksCut (ltb 4096) (LinksCount (record { offset = at; item = 0 })) (fieldAt 2 bytes at 0)) (linksFrom n bytes (at + 2) 1 [])
+    andThen (λ f. f) (allowed LinksCut (ltb 4096) (LinksCount (record { offset = at; item = 0 })) (fieldAt 2 bytes at 0)) (linkItems n bytes (at + 2) 1 [])
 
 -- where the states end, and the links
 abbrev pub statesEnd : ℕ → ℕ

@@ -9,7 +9,7 @@ ghost use Rattle.std.specs.declared.result.Result.the-variants.{Ok};
 ghost use Rattle.table.specs.System.{System, size};
 ghost use Rattle.format.specs.Encode.{FileOf};
 ghost use Rattle.table.specs.Charts.{systemOf, noSystem};
-ghost use Rattle.format.specs.Walk.{sortAt, stateAt, statesFrom, statesSection, sourceAt, labelAt, targetAt, linkAt, linksFrom, linksSection, statesEnd, decode};
+ghost use Rattle.format.specs.Walk.{sortAt, stateFields, stateItems, statesSection, sourceAt, labelAt, targetAt, linkFields, linkItems, linksSection, statesEnd, decode};
 ghost use Rattle.format.specs.Answers.{answerOf, systemIn};
 ghost use Rattle.format.specs.Steps.{Follows};
 use crate::cursor::Cursor;
@@ -88,7 +88,7 @@ fn take_target(cursor: &mut Cursor, size: usize) -> Result<u16, LinksFault>
 // The state at the cursor, with this number; its item is one more.
 fn read_state(cursor: &mut Cursor, number: u16) -> Result<State, StatesFault>
     requires { ⌜ number < 1024 ⌝ }
-    ensures value { λ r. ⌜ r ≡ stateAt (now (now (cursor .entry) .bytes)) (now (cursor .entry) .offset) (number + 1) ⌝ }
+    ensures value { λ r. ⌜ r ≡ stateFields (now (now (cursor .entry) .bytes)) (now (cursor .entry) .offset) (number + 1) ⌝ }
     ensures offset { λ r. ⌜ made r (λ _. now (cursor .exit) .offset ≡ now (cursor .entry) .offset + 3) ⌝ }
     ensures bytes { λ _. ⌜ now (now (cursor .exit) .bytes) ≡ now (now (cursor .entry) .bytes) ⌝ }
 {
@@ -101,7 +101,7 @@ fn read_state(cursor: &mut Cursor, number: u16) -> Result<State, StatesFault>
 // The link at the cursor, with this number, in a file of `size` states; its item is one more.
 fn read_link(cursor: &mut Cursor, number: u16, size: usize) -> Result<Link, LinksFault>
     requires { ⌜ number < 4096 ⌝ }
-    ensures value { λ r. ⌜ r ≡ linkAt size (now (now (cursor .entry) .bytes)) (now (cursor .entry) .offset) (number + 1) ⌝ }
+    ensures value { λ r. ⌜ r ≡ linkFields size (now (now (cursor .entry) .bytes)) (now (cursor .entry) .offset) (number + 1) ⌝ }
     ensures offset { λ r. ⌜ made r (λ _. now (cursor .exit) .offset ≡ now (cursor .entry) .offset + 9) ⌝ }
     ensures bytes { λ _. ⌜ now (now (cursor .exit) .bytes) ≡ now (now (cursor .entry) .bytes) ⌝ }
 {
@@ -123,7 +123,7 @@ fn read_states(cursor: &mut Cursor, chart: &mut Chart, count: u16) -> Result<(),
     requires few { ⌜ count ≤ 1024 ⌝ }
     requires offset { ⌜ now cursor .offset ≡ 2 ⌝ }
     requires none { ⌜ systemOf (now chart) ≡ noSystem ⌝ }
-    ensures { λ r. ⌜ Follows (statesFrom (now (now (cursor .entry) .bytes)) 2 1 [] count) r (λ states. (systemOf (now (chart .exit)) ≡ record { states = states; links = [] }) × (now (cursor .exit) .offset ≡ statesEnd (length states)) × (now (now (cursor .exit) .bytes) ≡ now (now (cursor .entry) .bytes))) ⌝ }
+    ensures { λ r. ⌜ Follows (stateItems (now (now (cursor .entry) .bytes)) 2 1 [] count) r (λ states. (systemOf (now (chart .exit)) ≡ record { states = states; links = [] }) × (now (cursor .exit) .offset ≡ statesEnd (length states)) × (now (now (cursor .exit) .bytes) ≡ now (now (cursor .entry) .bytes))) ⌝ }
 {
     for number in 0..count {
         let state = read_state(cursor, number)?;
@@ -137,7 +137,7 @@ fn read_states(cursor: &mut Cursor, chart: &mut Chart, count: u16) -> Result<(),
 fn read_links(cursor: &mut Cursor, chart: &mut Chart, count: u16) -> Result<(), LinksFault>
     requires few { ⌜ count ≤ 4096 ⌝ }
     requires none { ⌜ systemOf (now chart) .links ≡ [] ⌝ }
-    ensures { λ r. ⌜ Follows (linksFrom (size (systemOf (now (chart .entry)))) (now (now (cursor .entry) .bytes)) (now (cursor .entry) .offset) 1 [] count) r (λ links. (systemOf (now (chart .exit)) ≡ record { states = systemOf (now (chart .entry)) .states; links = links }) × (now (cursor .exit) .offset ≡ now (cursor .entry) .offset + 9 * length links)) ⌝ }
+    ensures { λ r. ⌜ Follows (linkItems (size (systemOf (now (chart .entry)))) (now (now (cursor .entry) .bytes)) (now (cursor .entry) .offset) 1 [] count) r (λ links. (systemOf (now (chart .exit)) ≡ record { states = systemOf (now (chart .entry)) .states; links = links }) × (now (cursor .exit) .offset ≡ now (cursor .entry) .offset + 9 * length links)) ⌝ }
 {
     let size = chart.states().len();
     for number in 0..count {
