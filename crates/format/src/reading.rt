@@ -192,12 +192,10 @@ fn read_file(bytes: &[u8], chart: &mut Chart) -> Result<(), TableFault>
     Ok(())
 }
 
-/// Reads a file: its states and links are then what the chart holds. A refused file leaves the chart empty.
-pub fn read(bytes: &[u8], chart: &mut Chart) -> Result<(), TableFault>
+// The whole file, into any chart, which a refused file leaves empty.
+fn read_or_empty(bytes: &[u8], chart: &mut Chart) -> Result<(), TableFault>
     ensures answer { λ r. ⌜ r ≡ answerOf (decode (now (bytes .entry))) ⌝ }
     ensures after { λ _. ⌜ systemOf (now (chart .exit)) ≡ systemIn (decode (now (bytes .entry))) ⌝ }
-    ensures longest { λ _. ⌜ ((more : List ℕ) → 39940 < length (now (bytes .entry)) → decode (now (bytes .entry) ++ more) ≡ decode (now (bytes .entry))) ⌝ }
-    ensures file { λ r. ⌜ ((t : System) → ((r ≡ Ok tt) × (systemOf (now (chart .exit)) ≡ t)) ↔ FileOf t (now (bytes .entry))) ⌝ }
 {
     chart.clear();
     let answer = read_file(bytes, chart);
@@ -205,4 +203,14 @@ pub fn read(bytes: &[u8], chart: &mut Chart) -> Result<(), TableFault>
         chart.clear();
     }
     answer
+}
+
+/// Reads a file: its states and links are then what the chart holds. A refused file leaves the chart empty.
+pub fn read(bytes: &[u8], chart: &mut Chart) -> Result<(), TableFault>
+    ensures answer { λ r. ⌜ r ≡ answerOf (decode (now (bytes .entry))) ⌝ }
+    ensures after { λ _. ⌜ systemOf (now (chart .exit)) ≡ systemIn (decode (now (bytes .entry))) ⌝ }
+    ensures longest { λ _. ⌜ ((more : List ℕ) → 39940 < length (now (bytes .entry)) → decode (now (bytes .entry) ++ more) ≡ decode (now (bytes .entry))) ⌝ }
+    ensures file { λ r. ⌜ ((t : System) → ((r ≡ Ok tt) × (systemOf (now (chart .exit)) ≡ t)) ↔ FileOf t (now (bytes .entry))) ⌝ }
+{
+    read_or_empty(bytes, chart)
 }
