@@ -24,6 +24,25 @@ pub struct Link {
     pub target: u16,
 }
 
+/// Where a node of the record of splits comes from: the node that was split, the label and the marker by which it was split,
+/// and the figure that the states of the new node have for them.
+#[derive(Clone, Copy, PartialEq, Eq, Debug)]
+pub struct Origin {
+    pub parent: u16,
+    pub label: u8,
+    pub marker: u16,
+    pub figure: i64,
+}
+
+/// A node of the record of splits, which stands for a set of states.
+#[derive(Clone, Copy, PartialEq, Eq, Debug)]
+pub enum Node {
+    /// The states of one sort and output.
+    Start(State),
+    /// The states of another node that have one figure.
+    Part(Origin),
+}
+
 /// Why a call is not carried out.
 #[derive(Clone, Copy, PartialEq, Eq, Debug)]
 pub enum Refusal {

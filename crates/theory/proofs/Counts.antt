@@ -8,15 +8,15 @@ use Rattle.std.proofs.shelf.Tests.{both-ways, cases-bool, cases-eq, cases-lt, c
 use Rattle.table.specs.Numbering.{howMany}
 
 module _ (P : ℕ → Bool) where
-  count-yes : (n : ℕ) → P n ≡ true → howMany P (suc n) ≡ suc (howMany P n)
+  pub count-yes : (n : ℕ) → P n ≡ true → howMany P (suc n) ≡ suc (howMany P n)
   unfolding howMany
   count-yes n e = cond-true (P n) _ _ e
 
-  count-no : (n : ℕ) → P n ≡ false → howMany P (suc n) ≡ howMany P n
+  pub count-no : (n : ℕ) → P n ≡ false → howMany P (suc n) ≡ howMany P n
   unfolding howMany
   count-no n e = cond-false (P n) _ _ e
 
-  count-none : howMany P 0 ≡ 0
+  pub count-none : howMany P 0 ≡ 0
   unfolding howMany
   count-none = refl
 

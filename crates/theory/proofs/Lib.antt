@@ -4,4 +4,7 @@ pub mod Counts
 pub mod Groups
 pub mod Rounds
 pub mod Kernels
+pub mod Starts
+pub mod Records
+pub mod Leaves
 pub mod Worked

@@ -33,26 +33,34 @@ decides-each : (p : ℕ → Bool) (P : ℕ → Type 0) → ((k : ℕ) → Decide
 unfolding each-below
 decides-each p P e = decides-below-and p P (each-below p) e refl (λ n. refl)
 
+-- what the test at the start says
+abbrev pub Alike : System → ℕ → ℕ → Type 0
+Alike t x y = (sortOf t x ≡ sortOf t y) × (outputOf t x ≡ outputOf t y)
+
+pub alike-relating : (t : System) → Relating (alike t) (Alike t)
+unfolding alike
+alike-relating t = record {
+  decides = λ x y. decides-and _ _ (decides-eqb (sortOf t x) (sortOf t y)) (decides-eqb (outputOf t x) (outputOf t y));
+  itself = λ x. (refl, refl);
+  back = λ x y h. (sym (h .0), sym (h .1));
+  on = λ x y z h k. (h .0 ∙ k .0, h .1 ∙ k .1);
+}
+
 -- the test of a round, and what it says
 test : Figure → System → ℕ → ℕ → ℕ → Bool
 test fig t zero = alike t
 test fig t (suc k) = still fig t (round fig t k)
 
 Kept : Figure → System → ℕ → ℕ → ℕ → Type 0
-Kept fig t zero x y = (sortOf t x ≡ sortOf t y) × (outputOf t x ≡ outputOf t y)
+Kept fig t zero x y = Alike t x y
 Kept fig t (suc k) x y =
     (inRound fig t k x ≡ inRound fig t k y)
     × ((l : ℕ) → l < 64 → (c : ℕ) → c < size t → figureOf fig t x l (class (inRound fig t k) c) ≡ figureOf fig t y l (class (inRound fig t k) c))
 
 module _ (fig : Figure) (t : System) where
   relating : (k : ℕ) → Relating (test fig t k) (Kept fig t k)
-  unfolding test Kept alike still
-  relating zero = record {
-    decides = λ x y. decides-and _ _ (decides-eqb (sortOf t x) (sortOf t y)) (decides-eqb (outputOf t x) (outputOf t y));
-    itself = λ x. (refl, refl);
-    back = λ x y h. (sym (h .0), sym (h .1));
-    on = λ x y z h k. (h .0 ∙ k .0, h .1 ∙ k .1);
-  }
+  unfolding test Kept still
+  relating zero = alike-relating t
   relating (suc k) = record {
     decides = λ x y. decides-and _ _ (decides-eqb (inRound fig t k x) (inRound fig t k y)) (decides-each _ _ (λ l. decides-each _ _ (λ c. decides-eqZ (figureOf fig t x l (class (inRound fig t k) c)) (figureOf fig t y l (class (inRound fig t k) c))) (size t)) 64);
     itself = λ x. (refl, λ l ll c cl. refl);

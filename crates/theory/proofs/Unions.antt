@@ -21,7 +21,7 @@ top g zero = (0, λ t h. absurd (omega arith))
 top g (suc n) = (suc (max (g n) (top g n .0)), λ t h. elim (cases-eq t n) [ inl e ↦ (let q : g t ≡ g n = ap g e in omega arith) | inr ne ↦ (let r = top g n .1 t (omega arith) in omega arith) ])
 
 -- whether a state below n is in the set and has the number c
-found : (g : ℕ → ℕ) (S : ℕ → Bool) (c n : ℕ) → ((z : ℕ) × (z < n) × (g z ≡ c) × (S z ≡ true)) ⊎ ((z : ℕ) → z < n → g z ≡ c → S z ≡ false)
+pub found : (g : ℕ → ℕ) (S : ℕ → Bool) (c n : ℕ) → ((z : ℕ) × (z < n) × (g z ≡ c) × (S z ≡ true)) ⊎ ((z : ℕ) → z < n → g z ≡ c → S z ≡ false)
 found g S c zero = inr (λ z h e. absurd (omega arith))
 found g S c (suc n) = go (found g S c n) (cases-eq (g n) c) (cases-bool (S n))
   where

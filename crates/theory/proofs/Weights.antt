@@ -40,7 +40,7 @@ pub same-kept : {X : Type 0} (p q : X → Bool) (xs : List X) → All (λ k. p k
 same-kept p q [] h = refl
 same-kept p q (x ∷ xs) h = rw (h .0, same-kept p q xs (h .1))
 
-none-kept : (p : Link → Bool) (xs : List Link) → All (λ k. p k ≡ false) xs → kept-by p xs ≡ []
+pub none-kept : (p : Link → Bool) (xs : List Link) → All (λ k. p k ≡ false) xs → kept-by p xs ≡ []
 none-kept p [] h = refl
 none-kept p (x ∷ xs) h = rw (h .0, none-kept p xs (h .1))
 

@@ -1,3 +1,4 @@
 pub mod Rounds
+pub mod Record
 pub mod Theorems
 pub mod Worked

@@ -2,11 +2,15 @@
 use mathlib.Core.Path.{_≡_}
 use mathlib.Core.Bool.{Bool}
 use mathlib.Core.Logic.{_↔_}
+use mathlib.Core.List.{List}
 use Prim.Native.Nat.{ℕ, suc, _<_, _≤_}
+use lib.ListN.{length}
 use Rattle.weigher.specs.Figure.{Figure, Order, Joining}
 use Rattle.table.specs.System.{System, Lawful, Fair, Settled, Union, size, figureOf, sortOf, outputOf, class}
 use Rattle.table.specs.Numbering.{smallest, groupNumber, groupCount}
+use Rattle.table.specs.declared.parts.Node.{Node}
 use Rattle.theory.specs.Rounds.{inRound}
+use Rattle.theory.specs.Record.{Record, Leaves, holds}
 
 -- under a fair grouping the states of a group have one figure into any union of groups
 abbrev pub Unions : Type 0
@@ -52,3 +56,18 @@ RoundsRefined =
 -- as many rounds as there are states reach the settled grouping
 abbrev pub RoundsSettle : Type 0
 RoundsSettle = (fig : Figure) → Order fig → Joining fig → (t : System) → Lawful t → Settled fig t (inRound fig t (size t))
+
+-- every fair grouping respects every node of a record: a node holds all of a group or none of it
+abbrev pub RecordsRespected : Type 0
+RecordsRespected =
+    (fig : Figure) → Order fig → Joining fig → (t : System) → Lawful t →
+    (nodes : List Node) → Record fig t nodes →
+    (g : ℕ → ℕ) → Fair fig t g → (i : ℕ) → i < length nodes → Union (size t) g (holds fig t nodes i)
+
+-- a record whose leaves have one figure for every node and label gives the settled grouping
+abbrev pub RecordsSettle : Type 0
+RecordsSettle =
+    (fig : Figure) → Order fig → Joining fig → (t : System) → Lawful t →
+    (nodes : List Node) → Record fig t nodes → (g : ℕ → ℕ) → Leaves fig t nodes g →
+    ((x y : ℕ) → x < size t → y < size t → g x ≡ g y → (l m : ℕ) → l < 64 → m < length nodes → figureOf fig t x l (holds fig t nodes m) ≡ figureOf fig t y l (holds fig t nodes m)) →
+    Settled fig t g
