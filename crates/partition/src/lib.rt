@@ -1,0 +1,4 @@
+//! A row of states, cut into stretches.
+mod cuts;
+pub mod row;
+pub mod stretch;
