@@ -1,0 +1,3 @@
+mod Chains
+mod Walks
+pub mod Labels
