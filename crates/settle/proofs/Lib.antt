@@ -1,0 +1,5 @@
+pub mod Progress
+pub mod Splits
+pub mod Listings
+pub mod Begins
+pub mod Groupings

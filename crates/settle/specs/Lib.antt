@@ -1,0 +1,5 @@
+pub mod Progress
+pub mod Parts
+pub mod Starts
+pub mod Ready
+pub mod Grouped
