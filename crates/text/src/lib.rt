@@ -1,0 +1,3 @@
+//! Texts, written into a lent buffer without further memory.
+pub mod buffer;
+pub mod report;
