@@ -1,6 +1,10 @@
-//! Reads a file for the pile `lots` from standard input and prints what is in it.
+//! Reads a table from standard input, settles it over the pile `lots`, and prints the report.
 use std::error::AnyError;
+use weigher::layers::BySortWeigher;
+use weigher::piles::LOTS_PILE;
+use weigher::plain::ReachWeigher;
+use weigher::plain::SumWeigher;
 
 fn main(rt: LibcRuntime) -> Result<(), AnyError> {
-    console::run(&rt)
+    console::run(&rt, LOTS_PILE)
 }
