@@ -1,4 +1,6 @@
 //! Reads a table from standard input, settles it over the pile `buttons`, and prints the report.
+#![tactic(auto)]
+
 use weigher::plain::Reach;
 
 fn main(rt: HostRuntime) -> anyhow::Result<()> {

@@ -1,4 +1,6 @@
 //! What the programs do: read a file, settle its table and report the groups, or say why the file is refused.
+#![tactic(auto)]
+
 ghost use Rattle.std.specs.Prelude.{◌≡◌, IfOk, None};
 ghost use Rattle.format.specs.Walk.{decode};
 ghost use Rattle.folder.specs.View.{view_of};
@@ -24,7 +26,7 @@ pub struct Answer {
 
 // Settles an open table and writes its report.
 fn write_settled<W: Weigher>(table: &mut Table<W>, out: &mut [u8]) -> Result<usize, Refusal>
-    ensures { (view_of table.old).settlement ≡ None → Written (figure table.old.pile) (view_of table.old).system out.old result out.new }
+    ensures { (view_of table.old).settlement ≡ None → Written (W.figure table.old.pile) (view_of table.old).system out.old result out.new }
 {
     table.settle()?;
     table.report(out)
@@ -32,7 +34,7 @@ fn write_settled<W: Weigher>(table: &mut Table<W>, out: &mut [u8]) -> Result<usi
 
 // The report of an open table, which is settled for it.
 fn settled_report<W: Weigher>(heap: Global, table: &mut Table<W>) -> Result<Vec<u8>, AllocError>
-    ensures { IfOk result (λ text. (view_of table.old).settlement ≡ None → Reported (figure table.old.pile) (view_of table.old).system text.items) }
+    ensures { IfOk result (λ text. (view_of table.old).settlement ≡ None → Reported (W.figure table.old.pile) (view_of table.old).system text.items) }
 {
     let mut text = vec![in heap; 0; LONGEST_REPORT]?;
     let len = write_settled(table, text.as_mut_slice()).unwrap_or(0);
@@ -44,7 +46,7 @@ fn settled_report<W: Weigher>(heap: Global, table: &mut Table<W>) -> Result<Vec<
 pub fn answer_file<W: Weigher>(heap: Global, pile: W, bytes: &[u8]) -> Result<Answer, AllocError>
 where
     W: Drop,
-    ensures { IfOk result (λ a. Printed (figure pile) (decode bytes.now) a.accepted a.text.items) }
+    ensures { IfOk result (λ a. Printed (W.figure pile) (decode bytes.now) a.accepted a.text.items) }
 {
     let mut table = Table::start(heap, pile)?;
     match table.read(bytes) {

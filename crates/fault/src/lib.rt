@@ -1,4 +1,6 @@
 //! What can be wrong with a file, layer by layer: bytes, section, table.
+#![tactic(auto)]
+
 ghost use Rattle.std.specs.Prelude.{◌≡◌, Some};
 ghost use Rattle.fault.specs.declared.StatesFault.TheVariants.{Cut as StatesCut};
 ghost use Rattle.fault.specs.declared.LinksFault.TheVariants.{Cut as LinksCut};

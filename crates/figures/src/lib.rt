@@ -1,4 +1,6 @@
 //! The figures of states, worked out weight after weight.
+#![tactic(auto)]
+
 ghost use Rattle.std.specs.Prelude.{◌≡◌, ℕ, ◌<◌, ◌≤◌, true, false, length, vec_len, vec_capacity};
 ghost use Rattle.table.specs.System.{size, figure_of};
 ghost use Rattle.table.specs.Charts.{system_of};
@@ -40,7 +42,7 @@ pub fn figure_of<W: Weigher>(
     requires marker { marker < count_of row.now }
     requires row { size_of row.now ≡ size (system_of chart.now) }
     requires index { IndexOf (system_of chart.now) index.now }
-    ensures { result ≡ figure_of (figure pile.now) (system_of chart.now) state label (in_node row.now marker) }
+    ensures { result ≡ figure_of (W.figure pile.now) (system_of chart.now) state label (in_node row.now marker) }
 {
     let sort = chart.states()[state as usize].sort;
     let links = chart.links();
@@ -73,7 +75,7 @@ pub fn weigh_node<W: Weigher>(
     requires row { size_of row.now ≡ size (system_of chart.now) }
     requires index { IndexOf (system_of chart.now) index.now }
     requires figures { size_of row.now ≤ vec_len figures.old }
-    ensures each { (x : ℕ) → x < size (system_of chart.now) → in_node row.now node x ≡ true → fig figures.new.items x ≡ figure_of (figure pile.now) (system_of chart.now) x label (in_node row.now marker) }
+    ensures each { (x : ℕ) → x < size (system_of chart.now) → in_node row.now node x ≡ true → fig figures.new.items x ≡ figure_of (W.figure pile.now) (system_of chart.now) x label (in_node row.now marker) }
     ensures len { vec_len figures.new ≡ vec_len figures.old }
     ensures capacity { vec_capacity figures.new ≡ vec_capacity figures.old }
 {

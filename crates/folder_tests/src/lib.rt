@@ -1,4 +1,6 @@
 //! The worked tables, built, settled and asked.
+#![tactic(auto)]
+
 #[cfg(test)]
 mod filling;
 #[cfg(test)]

@@ -1,4 +1,6 @@
 //! Files that are read and files that are refused.
+#![tactic(auto)]
+
 #[cfg(test)]
 mod tests {
     use fault::TableFault;

@@ -1,4 +1,6 @@
 //! Reads a table from standard input, settles it over the pile `lots`, and prints the report.
+#![tactic(auto)]
+
 use weigher::piles::LOTS_PILE;
 
 fn main(rt: HostRuntime) -> anyhow::Result<()> {

@@ -1,4 +1,6 @@
 //! Numbers for the groups of states, and for the sorts and outputs that the states have.
+#![tactic(auto)]
+
 ghost use Rattle.std.specs.Prelude.{◌≡◌, ◌<◌, ◌≤◌, [], ◌∷◌, ◌++◌, length, replicate, None, vec_len, vec_capacity};
 ghost use Rattle.std.specs.List.{AllWithin};
 ghost use Rattle.table.specs.Numbering.{group_count, group_numbers};

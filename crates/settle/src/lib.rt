@@ -1,2 +1,4 @@
 //! Settling: the coarsest fair grouping of a table, over any weigher.
+#![tactic(auto)]
+
 pub mod refinement;

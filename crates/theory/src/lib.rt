@@ -1,4 +1,6 @@
 //! What is proved of groupings, for every lawful weigher and every lawful table.
+#![tactic(auto)]
+
 ghost use Rattle.theory.specs.Theorems.{Unions, Unique, Numbers, RoundsMean, RoundsRefined, RoundsSettle, RecordsRespected, RecordsSettle};
 ghost use Rattle.theory.specs.Worked.{Worked};
 

@@ -1,4 +1,6 @@
 //! Reads a table from standard input, settles it over the pile `timed`, and prints the report.
+#![tactic(auto)]
+
 use weigher::piles::TIMED_PILE;
 
 fn main(rt: HostRuntime) -> anyhow::Result<()> {

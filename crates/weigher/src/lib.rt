@@ -1,4 +1,6 @@
 //! Weighers: what a list of weights amounts to, at a sort and a label.
+#![tactic(auto)]
+
 ghost use Rattle.std.specs.Prelude.{◌≡◌, ℕ, List, [], ◌∷◌, ◌++◌, ℤ};
 ghost use Rattle.weigher.specs.Figure.{Figure, Order, Joining};
 
@@ -36,7 +38,7 @@ pub trait Weigher {
 
 /// The figure of a list of weights, worked out weight after weight.
 pub fn weigh_list<W: Weigher>(pile: &W, sort: u8, label: u8, weights: &[i32]) -> i64
-    ensures { result ≡ figure pile.now sort label weights.now }
+    ensures { result ≡ W.figure pile.now sort label weights.now }
 {
     let mut load = pile.empty(sort, label);
     for weight in weights {

@@ -1,4 +1,6 @@
 //! Figures of small lists under the shipped piles, and under a deeper one.
+#![tactic(auto)]
+
 #[cfg(test)]
 mod tests {
     use weigher::layers::ByLabel;

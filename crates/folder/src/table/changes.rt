@@ -23,7 +23,7 @@ impl<W: Weigher> Table<W> {
         W: Drop,
         ensures pile { IfOk result (λ t. t.pile ≡ pile) }
         ensures view { IfOk result (λ t. view_of t ≡ fresh) }
-        ensures sound { IfOk result (λ t. Sound (figure t.pile) (view_of t)) }
+        ensures sound { IfOk result (λ t. Sound (W.figure t.pile) (view_of t)) }
     {
         let chart = Chart::reserve(heap)?;
         let spare = Chart::reserve(heap)?;
@@ -53,7 +53,7 @@ impl<W: Weigher> Table<W> {
         ensures answer { result ≡ add_answer (view_of self.old) (record { sort = sort; output = output }) }
         ensures view { view_of self.new ≡ after result (view_of self.old) (opened (view_of self.old) (with_state (view_of self.old).system (record { sort = sort; output = output }))) }
         ensures pile { self.new.pile ≡ self.old.pile }
-        ensures sound { Sound (figure self.old.pile) (view_of self.old) → Sound (figure self.new.pile) (view_of self.new) }
+        ensures sound { Sound (W.figure self.old.pile) (view_of self.old) → Sound (W.figure self.new.pile) (view_of self.new) }
     {
         if self.groups.is_some() {
             return Err(self.refuse(Refusal::AlreadySettled));
@@ -69,7 +69,7 @@ impl<W: Weigher> Table<W> {
         ensures answer { result ≡ linking_answer (view_of self.old) (record { source = source; label = label; weight = weight; target = target }) }
         ensures view { view_of self.new ≡ after result (view_of self.old) (opened (view_of self.old) (with_link (view_of self.old).system (record { source = source; label = label; weight = weight; target = target }))) }
         ensures pile { self.new.pile ≡ self.old.pile }
-        ensures sound { Sound (figure self.old.pile) (view_of self.old) → Sound (figure self.new.pile) (view_of self.new) }
+        ensures sound { Sound (W.figure self.old.pile) (view_of self.old) → Sound (W.figure self.new.pile) (view_of self.new) }
     {
         if self.groups.is_some() {
             return Err(self.refuse(Refusal::AlreadySettled));
@@ -91,7 +91,7 @@ impl<W: Weigher> Table<W> {
         ensures answer { result ≡ answer_of (decode bytes.now) }
         ensures view { view_of self.new ≡ read_view (view_of self.old) (decode bytes.now) }
         ensures pile { self.new.pile ≡ self.old.pile }
-        ensures sound { Sound (figure self.old.pile) (view_of self.old) → Sound (figure self.new.pile) (view_of self.new) }
+        ensures sound { Sound (W.figure self.old.pile) (view_of self.old) → Sound (W.figure self.new.pile) (view_of self.new) }
     {
         match read(bytes, &mut self.spare) {
             Ok(()) => {
@@ -108,7 +108,7 @@ impl<W: Weigher> Table<W> {
 
     // Finds the groups of the states.
     fn find_groups(&mut self) -> u16
-        ensures found { Finds (figure self.old.pile) (view_of self.old) result (view_of self.new) }
+        ensures found { Finds (W.figure self.old.pile) (view_of self.old) result (view_of self.new) }
         ensures pile { self.new.pile ≡ self.old.pile }
     {
         let count = self.refinement.settle(&self.pile, &self.chart);
@@ -118,9 +118,9 @@ impl<W: Weigher> Table<W> {
 
     /// Finds the groups, which makes the table settled, and answers how many there are.
     pub fn settle(&mut self) -> Result<u16, Refusal>
-        ensures settles { Settles (figure self.old.pile) (view_of self.old) result (view_of self.new) (view_of self.old).settlement }
+        ensures settles { Settles (W.figure self.old.pile) (view_of self.old) result (view_of self.new) (view_of self.old).settlement }
         ensures pile { self.new.pile ≡ self.old.pile }
-        ensures sound { Sound (figure self.old.pile) (view_of self.old) → Sound (figure self.new.pile) (view_of self.new) }
+        ensures sound { Sound (W.figure self.old.pile) (view_of self.old) → Sound (W.figure self.new.pile) (view_of self.new) }
     {
         match self.groups {
             Some(_) => Err(self.refuse(Refusal::AlreadySettled)),
@@ -133,7 +133,7 @@ impl<W: Weigher> Table<W> {
         ensures answer { result ≡ reopen_answer (view_of self.old) }
         ensures view { view_of self.new ≡ after result (view_of self.old) (opened (view_of self.old) (view_of self.old).system) }
         ensures pile { self.new.pile ≡ self.old.pile }
-        ensures sound { Sound (figure self.old.pile) (view_of self.old) → Sound (figure self.new.pile) (view_of self.new) }
+        ensures sound { Sound (W.figure self.old.pile) (view_of self.old) → Sound (W.figure self.new.pile) (view_of self.new) }
     {
         if self.groups.is_none() {
             return Err(self.refuse(Refusal::NotSettled));

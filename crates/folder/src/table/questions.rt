@@ -24,7 +24,7 @@ impl<W: Weigher> Table<W> {
     /// How many states and links there are, how many groups, which an open table has not, and how many calls were refused.
     pub fn count(&self) -> (usize, usize, Option<u16>, u32)
         ensures answer { Tally (view_of self.now) result.0 result.1 result.2 result.3 }
-        ensures meaning { Sound (figure self.now.pile) (view_of self.now) → CountMeans (figure self.now.pile) (view_of self.now).system result.2 }
+        ensures meaning { Sound (W.figure self.now.pile) (view_of self.now) → CountMeans (W.figure self.now.pile) (view_of self.now).system result.2 }
     {
         self.tally()
     }
@@ -45,7 +45,7 @@ impl<W: Weigher> Table<W> {
     /// The number of a state's group.
     pub fn group(&self, state: u16) -> Result<u16, Refusal>
         ensures answer { result ≡ group_answer (view_of self.now) state }
-        ensures meaning { Sound (figure self.now.pile) (view_of self.now) → GroupMeans (figure self.now.pile) (view_of self.now).system state result }
+        ensures meaning { Sound (W.figure self.now.pile) (view_of self.now) → GroupMeans (W.figure self.now.pile) (view_of self.now).system state result }
     {
         self.look_up(state)
     }

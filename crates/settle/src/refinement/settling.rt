@@ -66,15 +66,15 @@ impl Refinement {
         label: u8,
         marker: u16,
     ) -> bool
-        requires ready { Ready (figure pile.now) (system_of chart.now) self.old }
+        requires ready { Ready (W.figure pile.now) (system_of chart.now) self.old }
         requires leaf { leaf < vec_len self.old.nodes }
         requires open { is_split self.old.row leaf ≡ false }
         requires label { label < 64 }
         requires marker { marker < vec_len self.old.nodes }
-        ensures ready { Ready (figure pile.now) (system_of chart.now) self.new }
-        ensures evened { result ≡ true → Evened (figure pile.now) (system_of chart.now) self.old.nodes.items self.old.row leaf marker self.new.nodes.items self.new.row }
+        ensures ready { Ready (W.figure pile.now) (system_of chart.now) self.new }
+        ensures evened { result ≡ true → Evened (W.figure pile.now) (system_of chart.now) self.old.nodes.items self.old.row leaf marker self.new.nodes.items self.new.row }
         ensures same { result ≡ false → Same self.old.row self.new.row × (self.new.nodes.items ≡ self.old.nodes.items) }
-        ensures even { result ≡ false → EvenAt (figure pile.now) (system_of chart.now) self.old.nodes.items self.old.row leaf marker label }
+        ensures even { result ≡ false → EvenAt (W.figure pile.now) (system_of chart.now) self.old.nodes.items self.old.row leaf marker label }
     {
         weigh_node(
             pile,
@@ -109,13 +109,13 @@ impl Refinement {
         node: u16,
         marker: u16,
     )
-        requires ready { Ready (figure pile.now) (system_of chart.now) self.old }
+        requires ready { Ready (W.figure pile.now) (system_of chart.now) self.old }
         requires node { node < vec_len self.old.nodes }
         requires marker { marker < vec_len self.old.nodes }
         requires labels { length used.now ≡ 64 }
-        requires idle { Idle (figure pile.now) (system_of chart.now) self.old.nodes.items marker used.now }
-        ensures ready { Ready (figure pile.now) (system_of chart.now) self.new }
-        ensures evened { Evened (figure pile.now) (system_of chart.now) self.old.nodes.items self.old.row node marker self.new.nodes.items self.new.row }
+        requires idle { Idle (W.figure pile.now) (system_of chart.now) self.old.nodes.items marker used.now }
+        ensures ready { Ready (W.figure pile.now) (system_of chart.now) self.new }
+        ensures evened { Evened (W.figure pile.now) (system_of chart.now) self.old.nodes.items self.old.row node marker self.new.nodes.items self.new.row }
     {
         if self.row.is_split(node) {
             return;
@@ -134,11 +134,11 @@ impl Refinement {
 
     // Makes every node even for a marker. New nodes come last, so that they have their turn too.
     fn refine_by<W: Weigher>(&mut self, pile: &W, chart: &Chart, marker: u16)
-        requires ready { Ready (figure pile.now) (system_of chart.now) self.old }
+        requires ready { Ready (W.figure pile.now) (system_of chart.now) self.old }
         requires marker { marker < vec_len self.old.nodes }
-        ensures ready { Ready (figure pile.now) (system_of chart.now) self.new }
-        ensures onward { Onward (figure pile.now) (system_of chart.now) self.old.nodes.items self.old.row self.new.nodes.items self.new.row }
-        ensures even { (b : ℕ) → Even (figure pile.now) (system_of chart.now) self.new.nodes.items self.new.row b marker }
+        ensures ready { Ready (W.figure pile.now) (system_of chart.now) self.new }
+        ensures onward { Onward (W.figure pile.now) (system_of chart.now) self.old.nodes.items self.old.row self.new.nodes.items self.new.row }
+        ensures even { (b : ℕ) → Even (W.figure pile.now) (system_of chart.now) self.new.nodes.items self.new.row b marker }
     {
         let used = labels_into(chart, &self.row, marker);
         let mut node = 0;
@@ -150,9 +150,9 @@ impl Refinement {
 
     // Makes every node even for each node of the record, which is a marker in its turn, the new ones too.
     fn refine<W: Weigher>(&mut self, pile: &W, chart: &Chart)
-        requires { Ready (figure pile.now) (system_of chart.now) self.old }
-        ensures ready { Ready (figure pile.now) (system_of chart.now) self.new }
-        ensures even { (m : ℕ) → m < length self.new.nodes.items → (b : ℕ) → Even (figure pile.now) (system_of chart.now) self.new.nodes.items self.new.row b m }
+        requires { Ready (W.figure pile.now) (system_of chart.now) self.old }
+        ensures ready { Ready (W.figure pile.now) (system_of chart.now) self.new }
+        ensures even { (m : ℕ) → m < length self.new.nodes.items → (b : ℕ) → Even (W.figure pile.now) (system_of chart.now) self.new.nodes.items self.new.row b m }
     {
         let mut marker = 0;
         while marker < self.nodes.len() {
@@ -163,7 +163,7 @@ impl Refinement {
 
     /// Finds the groups of a table's states, and answers how many there are.
     pub fn settle<W: Weigher>(&mut self, pile: &W, chart: &Chart) -> u16
-        ensures { Grouped (figure pile.now) (system_of chart.now) self.new.groups.items result self.new.nodes.items }
+        ensures { Grouped (W.figure pile.now) (system_of chart.now) self.new.groups.items result self.new.nodes.items }
     {
         self.begin(chart);
         self.refine(pile, chart);
