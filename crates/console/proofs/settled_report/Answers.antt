@@ -10,12 +10,12 @@ use Rattle.console.proofs.settled_report.Goals as goal
 
 pub returns : goal.returns
 returns g c = λ e.
-    let w = c.write-settled.ensures e in
+    let w = c.write_settled.ensures e in
     let t : System = system_of c.args.table.now.chart in
     let text : List ℕ = report_of (length t.links) w.0.groups w.0.count in
-    let before : List ℕ = c.as-mut-slice.result.now in
+    let before : List ℕ = c.as_mut_slice.result.now in
     let room : length before ≡ 10275 = search rules in
     let fit : length text ≤ length before = omega (arith, fits _ t _ _ _ (chart_small c.args.table.now.chart) w.1) in
-    let len : c.unwrap-or-len.result ≡ length text = c.unwrap-or-len.ensures ∙ ap (λ r. result_unwrap_or r 0) (w.2 ∙ whole_answer_lem before text fit) in
-    let filled = with_items_is c.in-ok-text.text c.write-settled.new.out (search rules) in
+    let len : c.unwrap_or-len.result ≡ length text = c.unwrap_or-len.ensures ∙ ap (λ r. result_unwrap_or r 0) (w.2 ∙ whole_answer_lem before text fit) in
+    let filled = with_items_is c.in_ok-text.text c.write_settled.new.out (search rules) in
     (w.0, w.1, c.truncate.ensures.items ∙ ap₂ take len (filled ∙ w.3) ∙ whole_front before text fit)

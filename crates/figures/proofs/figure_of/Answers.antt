@@ -8,7 +8,7 @@ use Rattle.partition.specs.View.{in_node}
 use Rattle.figures.specs.Index.{Follows, at, link_at}
 use Rattle.figures.proofs.Walks.{sofar, sofar_none, sofar_all, walk_in, walk_past, walked}
 use Rattle.figures.proofs.figure_of.Goals as goal
-use Rattle.figures.proofs.figure_of.Goals.{then-leads-into, else-leads-into}
+use Rattle.figures.proofs.figure_of.Goals.{then-leads_into, else-leads_into}
 
 pub loop-next-init : goal.loop-next-init
 loop-next-init g c =
@@ -35,13 +35,13 @@ loop-next-preserved g c =
     let nexts : List ℕ = vec_items c.args.index.now.nexts in
     let f0 : Follows links (link_at links i).source (link_at links i).label (i + 1) (at nexts i) = rw c.links-links.ensures (c.requires.index.next i (search rules) (search rules)) in
     let f : Follows links x l (i + 1) c.next-next.result = rw (c.next-next.ensures, ← ex, ← el) f0 in
-    walked links x l S (λ ws. g.W.Weigher.carries c.args.pile.now sort l ws c.if-leads-into.load) (i + 1) c.next-next.result f
-    (elim c.if-leads-into.branch [
-      | then-leads-into w ↦
+    walked links x l S (λ ws. g.W.Weigher.carries c.args.pile.now sort l ws c.if-leads_into.load) (i + 1) c.next-next.result f
+    (elim c.if-leads_into.branch [
+      | then-leads_into w ↦
           let fit : SFits w32 (link_at links i).weight = search rules in
           let h = w.add-load.ensures (sofar links x l S i) c.loop-next.invariant.0 in
-          rw (walk_in links x l S i low ex el (sym c.leads-into.ensures ∙ w.if-leads-into.true), w.load-is) (simp to_z-of_z at h)
-      | else-leads-into w ↦ rw (walk_past links x l S i low ex el (sym c.leads-into.ensures ∙ w.if-leads-into.false), w.load-is) c.loop-next.invariant.0
+          rw (walk_in links x l S i low ex el (sym c.leads_into.ensures ∙ w.if-leads_into.true), w.load-is) (simp to_z-of_z at h)
+      | else-leads_into w ↦ rw (walk_past links x l S i low ex el (sym c.leads_into.ensures ∙ w.if-leads_into.false), w.load-is) c.loop-next.invariant.0
     ])
 
 pub returns : goal.returns

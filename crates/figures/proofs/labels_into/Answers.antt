@@ -5,7 +5,7 @@ use Rattle.partition.specs.View.{in_node}
 use Rattle.figures.specs.Index.{link_at}
 use Rattle.figures.proofs.Labels.{label_in, label_out}
 use Rattle.figures.proofs.labels_into.Goals as goal
-use Rattle.figures.proofs.labels_into.Goals.{then-leads-into, else-leads-into}
+use Rattle.figures.proofs.labels_into.Goals.{then-leads_into, else-leads_into}
 
 pub loop-link-preserved : goal.loop-link-preserved
 loop-link-preserved c =
@@ -13,7 +13,7 @@ loop-link-preserved c =
     let S : ℕ → Bool = in_node c.args.row.now c.args.marker in
     let i : ℕ = c.loop-link.link-index in
     let low : (link_at links i).label < length c.loop-link.used = search rules in
-    elim c.if-leads-into.branch [
-      | then-leads-into w ↦ rw w.used-is (label_in links S i c.loop-link.used c.loop-link.invariant.0 low, length-set c.loop-link.used (link_at links i).label true ∙ c.loop-link.invariant.1)
-      | else-leads-into w ↦ rw w.used-is (label_out links S i c.loop-link.used c.loop-link.invariant.0 (sym w.if-leads-into.ensures), c.loop-link.invariant.1)
+    elim c.if-leads_into.branch [
+      | then-leads_into w ↦ rw w.used-is (label_in links S i c.loop-link.used c.loop-link.invariant.0 low, length-set c.loop-link.used (link_at links i).label true ∙ c.loop-link.invariant.1)
+      | else-leads_into w ↦ rw w.used-is (label_out links S i c.loop-link.used c.loop-link.invariant.0 (sym w.if-leads_into.ensures), c.loop-link.invariant.1)
     ]

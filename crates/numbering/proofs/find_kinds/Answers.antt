@@ -5,17 +5,17 @@ use Rattle.numbering.specs.Kinds.{kind_of}
 use Rattle.numbering.proofs.Earliest.{kind_in}
 use Rattle.numbering.proofs.find_kinds.Goals as goal
 
-pub push-reserved-requires : goal.push-reserved-requires
-push-reserved-requires c =
+pub push_reserved-requires : goal.push_reserved-requires
+push_reserved-requires c =
     let n : length (vec_items c.loop-x.kinds) ≡ c.loop-x.x = ap length c.loop-x.invariant.0 ∙ length-map-range_with_len _ 0 c.loop-x.x in
     omega (arith, c.loop-x.kinds.ok.0, c.loop-x.invariant.1, c.clear.ensures.capacity, c.requires.room, c.requires.few, c.loop-x-test.true)
 
 pub loop-x-preserved : goal.loop-x-preserved
 loop-x-preserved c =
     let kind : ℕ → ℤ = λ x. pos (kind_of c.args.states.now x) in
-    let found : to_z w64 c.first_alike.result ≡ kind c.loop-x.x = to_z_pos w64 c.first_alike.result (omega (arith, c.first_alike.type-inv)) ∙ ap pos c.first_alike.ensures in (
-      c.push-reserved.ensures.items ∙ rw (c.loop-x.invariant.0, found) (sym (map-range_with_len_more kind 0 c.loop-x.x c.loop-x.x (omega arith))),
-      c.push-reserved.ensures.capacity ∙ c.loop-x.invariant.1,
+    let found : to_z w64 c.first_alike.result ≡ kind c.loop-x.x = to_z_pos w64 c.first_alike.result (omega (arith, c.first_alike.type_inv)) ∙ ap pos c.first_alike.ensures in (
+      c.push_reserved.ensures.items ∙ rw (c.loop-x.invariant.0, found) (sym (map-range_with_len_more kind 0 c.loop-x.x c.loop-x.x (omega arith))),
+      c.push_reserved.ensures.capacity ∙ c.loop-x.invariant.1,
     )
 
 pub returns : goal.returns

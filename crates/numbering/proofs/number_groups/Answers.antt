@@ -2,10 +2,10 @@ use Rattle.std.proofs.Common.{◌∙◌, arith}
 use Rattle.numbering.proofs.Numbered.{numbered_none}
 use Rattle.numbering.proofs.number_groups.Goals as goal
 
-pub number-all-requires : goal.number-all-requires
-number-all-requires c = record {
+pub number_all-requires : goal.number_all-requires
+number_all-requires c = record {
   few = c.requires.few;
   low = c.requires.low;
-  start = numbered_none _ _ _ (c.as-mut-slice.ensures.value ∙ c.forget.ensures.items) c.clear.ensures.items;
+  start = numbered_none _ _ _ (c.as_mut_slice.ensures.value ∙ c.forget.ensures.items) c.clear.ensures.items;
   groups = omega (arith, c.clear.ensures.capacity, c.requires.groups);
 }

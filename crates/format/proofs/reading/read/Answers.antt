@@ -6,10 +6,10 @@ use Rattle.format.proofs.reading.read.Goals as goal
 pub returns : goal.returns
 returns c =
     let bytes = c.args.bytes.now in
-    let said = c.read-or-empty.ensures in
+    let said = c.read_or_empty.ensures in
     record {
       answer = said.answer;
       after = said.after;
       longest = λ more. longest bytes more;
-      file = answered bytes c.type-inv.bytes c.read-or-empty.result (system_of c.read-or-empty.new.chart) said.answer said.after;
+      file = answered bytes c.type_inv.bytes c.read_or_empty.result (system_of c.read_or_empty.new.chart) said.answer said.after;
     }

@@ -17,12 +17,12 @@ loop-x-preserved c =
     elim c.if-shows.branch [
       | then-shows w ↦
           let is = when_true _ _ w.if-shows.true c.shows.ensures ∙ told in (
-            sort_like _ _ _ _ _ _ _ _ _ _ _ _ _ _ w.order-is w.place-is w.block_is (ap vec_items w.stretches-is) w.m-is
-                (sort_take _ _ _ _ _ _ _ _ _ c.requires.kinds s c.loop-x-test.true is _ told _ _ _ _ _ w.take-run-m.ensures.taken),
-            ap vec_capacity w.stretches-is ∙ w.take-run-m.ensures.capacity ∙ c.loop-x.invariant.1,
+            sort_like _ _ _ _ _ _ _ _ _ _ _ _ _ _ w.order-is w.place-is w.block-is (ap vec_items w.stretches-is) w.m-is
+                (sort_take _ _ _ _ _ _ _ _ _ c.requires.kinds s c.loop-x-test.true is _ told _ _ _ _ _ w.take_run-m.ensures.taken),
+            ap vec_capacity w.stretches-is ∙ w.take_run-m.ensures.capacity ∙ c.loop-x.invariant.1,
           )
       | else-shows w ↦ (
-        sort_like _ _ _ _ _ _ _ _ _ _ _ _ _ _ w.order-is w.place-is w.block_is (ap vec_items w.stretches-is) w.m-is
+        sort_like _ _ _ _ _ _ _ _ _ _ _ _ _ _ w.order-is w.place-is w.block-is (ap vec_items w.stretches-is) w.m-is
             (sort_skip _ _ _ _ _ _ _ _ _ c.requires.kinds s c.loop-x-test.true (λ e. when_false _ _ w.if-shows.false c.shows.ensures (e ∙ sym told))),
         ap vec_capacity w.stretches-is ∙ c.loop-x.invariant.1,
       )

@@ -8,8 +8,8 @@ use Rattle.partition.proofs.cuts.cut_runs.Goals as goal
 pub loop-m-init : goal.loop-m-init
 loop-m-init c = (cutting_start _ _ _ _ _ _ _ c.requires.perm c.requires.same c.requires.start_within, refl)
 
-pub take-run-m-requires : goal.take-run-m-requires
-take-run-m-requires c =
+pub take_run-m-requires : goal.take_run-m-requires
+take_run-m-requires c =
     let i = c.loop-m.invariant.0 in
     record {
       small = omega (arith, i.outside.len, c.requires.small);
@@ -25,22 +25,22 @@ take-run-m-requires c =
 pub loop-m-smaller : goal.loop-m-smaller
 loop-m-smaller c =
     let i = c.loop-m.invariant.0 in
-    let t = c.take-run-m.ensures.taken in
+    let t = c.take_run-m.ensures.taken in
     let fits : c.args.end ≤ length c.loop-m.order = omega (arith, i.outside.len, c.requires.end_within) in
     let x : ℤ = fig c.args.figures.now (at c.loop-m.order c.loop-m.m) in
     let fit : SFits w64 x = search rules in
-    let more : c.loop-m.m < c.take-run-m.result = taken_some _ _ _ _ _ _ _ _ _ _ _ _ _ _ _ _ _ i fits t c.loop-m.m (omega arith) c.loop-m-test.true (sym (to_z-of_z w64 x fit)) in
+    let more : c.loop-m.m < c.take_run-m.result = taken_some _ _ _ _ _ _ _ _ _ _ _ _ _ _ _ _ _ i fits t c.loop-m.m (omega arith) c.loop-m-test.true (sym (to_z-of_z w64 x fit)) in
     omega (arith, t.high)
 
 pub loop-m-preserved : goal.loop-m-preserved
 loop-m-preserved c =
     let i = c.loop-m.invariant.0 in
-    let t = c.take-run-m.ensures.taken in
+    let t = c.take_run-m.ensures.taken in
     let fits : c.args.end ≤ length c.loop-m.order = omega (arith, i.outside.len, c.requires.end_within) in
     let x : ℤ = fig c.args.figures.now (at c.loop-m.order c.loop-m.m) in
     let fit : SFits w64 x = search rules in
-    let more : c.loop-m.m < c.take-run-m.result = taken_some _ _ _ _ _ _ _ _ _ _ _ _ _ _ _ _ _ i fits t c.loop-m.m (omega arith) c.loop-m-test.true (sym (to_z-of_z w64 x fit)) in
-    (cutting_more _ _ _ _ _ _ _ _ _ _ _ _ _ _ _ _ _ i fits t more, c.take-run-m.ensures.capacity ∙ c.loop-m.invariant.1)
+    let more : c.loop-m.m < c.take_run-m.result = taken_some _ _ _ _ _ _ _ _ _ _ _ _ _ _ _ _ _ i fits t c.loop-m.m (omega arith) c.loop-m-test.true (sym (to_z-of_z w64 x fit)) in
+    (cutting_more _ _ _ _ _ _ _ _ _ _ _ _ _ _ _ _ _ i fits t more, c.take_run-m.ensures.capacity ∙ c.loop-m.invariant.1)
 
 pub returns : goal.returns
 returns c =

@@ -11,9 +11,9 @@ returns c =
     let j = c.args.j in
     let eo = c.put-2.ensures.order ∙ ap (λ z. set z j (at o i)) c.put.ensures.order in
     let ep = c.put-2.ensures.place ∙ ap (λ z. set z (at o i) j) c.put.ensures.place in
-    let s : Swapped o c.put-2.new.order i j = rw eo (set_swapped o i j c.requires.i-within c.requires.j-within) in
-    let q : Placed o p c.put-2.new.place i j = rw ep (set_placed o p i j c.requires.perm c.requires.i-within c.requires.j-within) in
+    let s : Swapped o c.put-2.new.order i j = rw eo (set_swapped o i j c.requires.i_within c.requires.j_within) in
+    let q : Placed o p c.put-2.new.place i j = rw ep (set_placed o p i j c.requires.perm c.requires.i_within c.requires.j_within) in
     record {
-      perm = swapped_perm o p _ _ i j c.requires.perm c.requires.i-within c.requires.j-within s q;
+      perm = swapped_perm o p _ _ i j c.requires.perm c.requires.i_within c.requires.j_within s q;
       swapped = s;
     }

@@ -10,5 +10,5 @@ pub returns : goal.returns
 returns t c =
     let n : length (decimal c.args.n) ≤ 20 = length-decimal-le 20 c.args.n (omega arith) (omega (arith, c.ranges.n)) (omega (arith, c.ranges.n)) in
     let e = ap length (decimal_step c.args.n c.if-n-lt10.false (search rules)) ∙ length_push _ _ in
-    let h = c.decimal-len.ensures.value in
+    let h = c.decimal_len.ensures.value in
     record { value = omega arith; few = omega arith }

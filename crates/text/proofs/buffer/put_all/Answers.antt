@@ -6,15 +6,15 @@ use Rattle.text.proofs.buffer.put_all.Goals as goal
 pub loop-byte-init : goal.loop-byte-init
 loop-byte-init c = wrote_nothing _ _
 
-pub returns-in-err-at : goal.returns-in-err-at
-returns-in-err-at c =
+pub returns-in_err-at : goal.returns-in_err-at
+returns-in_err-at c =
     let bs : List ℕ = c.args.bytes.now in
     let i : ℕ = c.loop-byte.byte-index in
     let e : bs ≡ take i bs ++ (get_or bs i 0 ∷ drop (i + 1) bs) = sym (take-append-drop i bs) ∙ ap (λ z. take i bs ++ z) (drop_more bs i 0 c.loop-byte-test.true) in
-    wrote_text e (wrote_then c.loop-byte.invariant (wrote_exit (drop (i + 1) bs) c.in-err-at.ensures c.from-residual.ensures.1))
+    wrote_text e (wrote_then c.loop-byte.invariant (wrote_exit (drop (i + 1) bs) c.in_err-at.ensures c.from_residual.ensures.1))
 
 pub loop-byte-preserved : goal.loop-byte-preserved
-loop-byte-preserved c = wrote_text (take_more c.args.bytes.now c.loop-byte.byte-index 0 c.loop-byte-test.true) (wrote_then c.loop-byte.invariant c.in-ok-at.ensures)
+loop-byte-preserved c = wrote_text (take_more c.args.bytes.now c.loop-byte.byte-index 0 c.loop-byte-test.true) (wrote_then c.loop-byte.invariant c.in_ok-at.ensures)
 
 pub returns : goal.returns
 returns c = wrote_text (sym (take_all c.loop-byte.byte-index c.args.bytes.now c.loop-byte-test.false)) c.loop-byte.invariant

@@ -11,5 +11,5 @@ returns c =
     let a = length-append s (codes " links " ++ (l ++ (codes " groups " ++ (g ++ (10 ∷ []))))) in
     let b = length-append l (codes " groups " ++ (g ++ (10 ∷ []))) in
     let d = length-append g (10 ∷ []) in
-    let v : 23 + c.decimal-len.result + c.decimal-len-2.result + c.decimal-len-3.result ≡ length (head_of c.args.states c.args.links c.args.groups) = omega (arith, c.decimal-len.ensures.value, c.decimal-len-2.ensures.value, c.decimal-len-3.ensures.value) in
-    record { value = v; few = omega (arith, c.decimal-len.ensures.few, c.decimal-len-2.ensures.few, c.decimal-len-3.ensures.few) }
+    let v : 23 + c.decimal_len.result + c.decimal_len-2.result + c.decimal_len-3.result ≡ length (head_of c.args.states c.args.links c.args.groups) = omega (arith, c.decimal_len.ensures.value, c.decimal_len-2.ensures.value, c.decimal_len-3.ensures.value) in
+    record { value = v; few = omega (arith, c.decimal_len.ensures.few, c.decimal_len-2.ensures.few, c.decimal_len-3.ensures.few) }

@@ -4,8 +4,8 @@ use Rattle.text.proofs.report.lines_len.Goals as goal
 
 pub loop-state-preserved : goal.loop-state-preserved
 loop-state-preserved c =
-    let a = c.decimal-len.ensures in
-    let b = c.decimal-len-in-loop-state.ensures in
+    let a = c.decimal_len.ensures in
+    let b = c.decimal_len-in-loop-state.ensures in
     let e = ap length (lines_next c.args.groups.now c.loop-state.state c.loop-state-test.true) ∙ line_length _ _ _ in
     (omega (arith, a.value, b.value, c.loop-state.invariant.0), omega (arith, a.few, b.few, c.loop-state.invariant.1))
 

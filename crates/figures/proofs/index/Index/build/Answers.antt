@@ -15,8 +15,8 @@ chain-requires c =
       few_states = omega (arith, (chart_small chart).states);
       sources = rw (el, n) (λ k d low lt. omega (arith, chart.sources k d low lt, chart.states.ok.0));
       labels = rw el chart.labels;
-      firsts = c.as-mut-slice.ensures.value ∙ c.fill.ensures.items;
-      nexts = ap length (c.as-mut-slice-2.ensures.value ∙ c.fill-2.ensures.items) ∙ length-replicate _ _;
+      firsts = c.as_mut_slice.ensures.value ∙ c.fill.ensures.items;
+      nexts = ap length (c.as_mut_slice-2.ensures.value ∙ c.fill-2.ensures.items) ∙ length-replicate _ _;
     }
 
 pub returns : goal.returns

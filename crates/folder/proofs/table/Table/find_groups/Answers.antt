@@ -2,8 +2,8 @@ use Rattle.std.proofs.Common.{vec_items, refl}
 use Rattle.settle.proofs.Groupings.{grouped_length}
 use Rattle.folder.proofs.table.Table.find_groups.Goals as goal
 
-pub invariant-of-self : goal.invariant-of-self
-invariant-of-self g c = (λ n e. grouped_length _ _ _ _ _ c.settle-count.ensures, tt)
+pub invariant_of-self : goal.invariant_of-self
+invariant_of-self g c = (λ n e. grouped_length _ _ _ _ _ c.settle-count.ensures, tt)
 
 pub returns : goal.returns
 returns g c = record {

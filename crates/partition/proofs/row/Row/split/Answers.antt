@@ -6,15 +6,37 @@ use Rattle.partition.proofs.Divides.{whole_like, cut_like}
 use Rattle.partition.proofs.Rows.{divided, unchanged}
 use Rattle.partition.proofs.row.Row.split.Goals as goal
 
-pub invariant-of-self : goal.invariant-of-self
-invariant-of-self c =
+pub invariant_of-self : goal.invariant_of-self
+invariant_of-self c =
     let r = c.args.self.now in
     let eo = with_items_is r.order c.refine.new.order (search rules) in
     let ep = with_items_is r.place c.refine.new.place (search rules) in
     let ek = with_items_is r.block c.refine.new.block (search rules) in
     let w = whole_like _ _ _ _ _ _ _ eo ep ek c.refine.ensures.whole in
     let room = r.room in
-    (r.small, (omega (arith, c.refine.ensures.capacity), (r.room_order, (r.room_place, (r.room_block, (w.perm.same, (w.perm.low, (w.perm.back, (w.perm.low_place, (w.perm.fore, (w.same, (w.filled, (w.within, (w.known, (w.leaf, (w.from, (w.to, (w.own, (w.union_low, (w.union_high, (w.few, tt)))))))))))))))))))))
+    record {
+      small = r.small;
+      room = omega (arith, c.refine.ensures.capacity);
+      room_order = r.room_order;
+      room_place = r.room_place;
+      room_block = r.room_block;
+      places = w.perm.same;
+      low = w.perm.low;
+      back = w.perm.back;
+      low_place = w.perm.low_place;
+      fore = w.perm.fore;
+      blocks = w.same;
+      filled = w.filled;
+      within = w.within;
+      known = w.known;
+      leaf = w.leaf;
+      from = w.from;
+      to = w.to;
+      own = w.own;
+      union_low = w.union_low;
+      union_high = w.union_high;
+      few = w.few;
+    }
 
 pub returns : goal.returns
 returns c =
@@ -22,9 +44,9 @@ returns c =
     let eo = with_items_is r.order c.refine.new.order (search rules) in
     let ep = with_items_is r.place c.refine.new.place (search rules) in
     let ek = with_items_is r.block c.refine.new.block (search rules) in
-    let vo = c.as-mut-slice.ensures.value in
-    let vp = c.as-mut-slice-2.ensures.value in
-    let vk = c.as-mut-slice-3.ensures.value in
+    let vo = c.as_mut_slice.ensures.value in
+    let vp = c.as_mut_slice-2.ensures.value in
+    let vk = c.as_mut_slice-3.ensures.value in
     record {
       divided = λ q. divided r _ c.args.figures.now c.args.leaf c.requires.known c.requires.open (cut_like _ _ _ _ _ _ _ _ _ _ _ _ _ _ _ _ vo vk eo ep ek (c.refine.ensures.cut q)) (c.refine.ensures.two q);
       unchanged = λ q.

@@ -7,16 +7,16 @@ use Rattle.partition.specs.Perm.{at}
 use Rattle.partition.specs.declared.row.Row.{Row}
 use Rattle.settle.proofs.Progress.{same_self, same_then, evened_same, split_is_even, one_is_even, idle_is_even, even_back, even_more}
 use Rattle.settle.proofs.refinement.Refinement.even_out.Goals as goal
-use Rattle.settle.proofs.refinement.Refinement.even_out.Goals.{then-used-label+else-split-by, else-used-label}
+use Rattle.settle.proofs.refinement.Refinement.even_out.Goals.{then-used-label+else-split_by, else-used-label}
 
-pub returns-then-is-split : goal.returns-then-is-split
-returns-then-is-split g c =
+pub returns-then-is_split : goal.returns-then-is_split
+returns-then-is_split g c =
     let fig : Figure = g.W.Weigher.figure c.args.pile.now in
     let t : System = system_of c.args.chart.now in
     let nodes : List Node = vec_items c.args.self.now.nodes in
     let r : Row = c.args.self.now.row in
     let s = c.requires.ready.shown in
-    record { ready = c.requires.ready; evened = evened_same fig t nodes r r c.args.node c.args.marker (same_self r) s (split_is_even fig t nodes r s c.args.node c.args.marker (sym c.is-split.ensures ∙ c.if-is-split.true)) }
+    record { ready = c.requires.ready; evened = evened_same fig t nodes r r c.args.node c.args.marker (same_self r) s (split_is_even fig t nodes r s c.args.node c.args.marker (sym c.is_split.ensures ∙ c.if-is_split.true)) }
 
 pub returns-then-states-lt2 : goal.returns-then-states-lt2
 returns-then-states-lt2 g c =
@@ -42,15 +42,15 @@ loop-label-preserved g c =
     let r : Row = c.args.self.now.row in
     let inv = c.loop-label.invariant in
     elim c.if-used-label.branch [
-      | then-used-label+else-split-by w ↦
-          let no' = w.if-split-by.false in
-          let q = w.split-by.ensures.same no' in
+      | then-used-label+else-split_by w ↦
+          let no' = w.if-split_by.false in
+          let q = w.split_by.ensures.same no' in
           rw w.self-is (
-            w.split-by.ensures.ready,
-            same_then r c.loop-label.self.row w.split-by.new.self.row inv.1 q.0,
+            w.split_by.ensures.ready,
+            same_then r c.loop-label.self.row w.split_by.new.self.row inv.1 q.0,
             q.1 ∙ inv.2,
             even_more fig t nodes r c.args.node c.args.marker c.loop-label.label inv.3
-                (even_back fig t nodes (vec_items c.loop-label.self.nodes) r c.loop-label.self.row c.args.node c.args.marker c.loop-label.label inv.2 inv.1 (w.split-by.ensures.even no')),
+                (even_back fig t nodes (vec_items c.loop-label.self.nodes) r c.loop-label.self.row c.args.node c.args.marker c.loop-label.label inv.2 inv.1 (w.split_by.ensures.even no')),
           )
       | else-used-label w ↦ rw w.self-is (
         inv.0,

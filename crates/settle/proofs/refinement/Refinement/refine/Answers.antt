@@ -13,13 +13,13 @@ loop-marker-preserved g c =
     let fig : Figure = g.W.Weigher.figure c.args.pile.now in
     let t : System = system_of c.args.chart.now in
     let n1 : List Node = vec_items c.loop-marker.self.nodes in
-    let n2 : List Node = vec_items c.refine-by.new.self.nodes in
+    let n2 : List Node = vec_items c.refine_by.new.self.nodes in
     let r1 : Row = c.loop-marker.self.row in
-    let r2 : Row = c.refine-by.new.self.row in
+    let r2 : Row = c.refine_by.new.self.row in
     let inv = c.loop-marker.invariant in
     let kl : c.loop-marker.marker < length n1 = search rules in
-    let far = longer fig t n1 r1 n2 r2 inv.0.shown c.refine-by.ensures.onward in (
-      c.refine-by.ensures.ready,
-      markers_more fig t (chart_lawful c.args.chart.now) n1 n2 r1 r2 inv.0.shown c.refine-by.ensures.onward c.loop-marker.marker kl inv.1 c.refine-by.ensures.even,
+    let far = longer fig t n1 r1 n2 r2 inv.0.shown c.refine_by.ensures.onward in (
+      c.refine_by.ensures.ready,
+      markers_more fig t (chart_lawful c.args.chart.now) n1 n2 r1 r2 inv.0.shown c.refine_by.ensures.onward c.loop-marker.marker kl inv.1 c.refine_by.ensures.even,
       omega arith,
     )

@@ -8,8 +8,8 @@ use Rattle.partition.specs.declared.row.Row.{Row}
 use Rattle.settle.proofs.Progress.{longer, onward_then, one_more, all_even, idle_start, idle_still}
 use Rattle.settle.proofs.refinement.Refinement.refine_by.Goals as goal
 
-pub even-out-requires : goal.even-out-requires
-even-out-requires g c =
+pub even_out-requires : goal.even_out-requires
+even_out-requires g c =
     let fig : Figure = g.W.Weigher.figure c.args.pile.now in
     let t : System = system_of c.args.chart.now in
     let n1 : List Node = vec_items c.args.self.now.nodes in
@@ -25,7 +25,7 @@ even-out-requires g c =
       node = search rules;
       marker = omega (arith, c.loop-node.self.nodes.ok.0);
       labels = search rules;
-      idle = idle_still fig t lawful n1 n2 r1 r2 c.requires.ready.shown inv.1 c.args.marker ml c.labels-into-used.result (idle_start fig t lawful n1 r1 c.requires.ready.shown c.args.marker ml c.labels-into-used.result c.labels-into-used.ensures);
+      idle = idle_still fig t lawful n1 n2 r1 r2 c.requires.ready.shown inv.1 c.args.marker ml c.labels_into-used.result (idle_start fig t lawful n1 r1 c.requires.ready.shown c.args.marker ml c.labels_into-used.result c.labels_into-used.ensures);
     }
 
 pub loop-node-preserved : goal.loop-node-preserved
@@ -34,16 +34,16 @@ loop-node-preserved g c =
     let t : System = system_of c.args.chart.now in
     let n1 : List Node = vec_items c.args.self.now.nodes in
     let n2 : List Node = vec_items c.loop-node.self.nodes in
-    let n3 : List Node = vec_items c.even-out.new.self.nodes in
+    let n3 : List Node = vec_items c.even_out.new.self.nodes in
     let r1 : Row = c.args.self.now.row in
     let r2 : Row = c.loop-node.self.row in
-    let r3 : Row = c.even-out.new.self.row in
+    let r3 : Row = c.even_out.new.self.row in
     let inv = c.loop-node.invariant in
     let far = longer fig t n1 r1 n2 r2 c.requires.ready.shown inv.1 in
     let kl : c.loop-node.node < length n2 = search rules in
     let ml : c.args.marker < length n2 = omega (arith, c.requires.marker, c.args.self.now.nodes.ok.0) in
-    let e = c.even-out.ensures.evened in (
-      c.even-out.ensures.ready,
+    let e = c.even_out.ensures.evened in (
+      c.even_out.ensures.ready,
       onward_then fig t n1 n2 n3 r1 r2 r3 inv.1 e.onward,
       one_more fig t (chart_lawful c.args.chart.now) n2 n3 r2 r3 inv.0.shown c.loop-node.node c.args.marker kl ml e inv.2,
     )

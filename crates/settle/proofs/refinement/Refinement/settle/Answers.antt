@@ -18,8 +18,8 @@ refine-requires g c =
     let s = c.begin.ensures.shown (g.W.Weigher.figure c.args.pile.now) in
     record { shown = s; index = c.begin.ensures.index; figures = omega (arith, s.sized, c.begin.ensures.figures, c.begin.new.self.figures.ok.0) }
 
-pub number-groups-requires : goal.number-groups-requires
-number-groups-requires g c =
+pub number_groups-requires : goal.number_groups-requires
+number_groups-requires g c =
     let r : Row = c.refine.new.self.row in
     let e = c.blocks-2.ensures in
     let n : length c.blocks-2.result.now ≡ size_of r = ap (λ bs. length bs) e ∙ r.blocks in
@@ -44,6 +44,6 @@ returns g c =
     let e = c.blocks-2.ensures in
     let n : length c.blocks-2.result.now ≡ size t = ap (λ bs. length bs) e ∙ r.blocks ∙ c.refine.ensures.ready.shown.sized in
     grouped_here fig (g.met.W.Weigher.order c.args.pile.now) (g.met.W.Weigher.joining c.args.pile.now) t (chart_lawful c.args.chart.now) nodes r c.refine.ensures.ready.shown
-    c.refine.ensures.even (vec_items c.number-groups.new.groups) c.number-groups.result
-    (c.number-groups.ensures.groups ∙ ap (λ bs. group_numbers (at bs) (length c.blocks-2.result.now)) e ∙ ap (group_numbers (block_of r)) n)
-    (c.number-groups.ensures.count ∙ ap (λ bs. group_count (at bs) (length c.blocks-2.result.now)) e ∙ ap (group_count (block_of r)) n)
+    c.refine.ensures.even (vec_items c.number_groups.new.groups) c.number_groups.result
+    (c.number_groups.ensures.groups ∙ ap (λ bs. group_numbers (at bs) (length c.blocks-2.result.now)) e ∙ ap (group_numbers (block_of r)) n)
+    (c.number_groups.ensures.count ∙ ap (λ bs. group_count (at bs) (length c.blocks-2.result.now)) e ∙ ap (group_count (block_of r)) n)

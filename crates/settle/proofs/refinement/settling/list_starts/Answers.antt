@@ -12,8 +12,8 @@ use Rattle.settle.proofs.Begins.{leader_yes, leader_no}
 use Rattle.settle.proofs.refinement.settling.list_starts.Goals as goal
 use Rattle.settle.proofs.refinement.settling.list_starts.Goals.{then-kinds-x, else-kinds-x}
 
-pub push-reserved-requires : goal.push-reserved-requires
-push-reserved-requires c =
+pub push_reserved-requires : goal.push_reserved-requires
+push_reserved-requires c =
     let t : System = system_of c.args.chart.now in
     let n = ap (λ ns. length ns) c.loop-x.invariant.0 ∙ length_below t c.loop-x.x in
     let b = count_bound (leader t) c.loop-x.x in
@@ -29,10 +29,10 @@ loop-x-preserved c =
     let k : of_z w64 (get_or c.args.kinds.now x (pos 0)) ≡ earliest (alike t) x = ap (of_z w64) (c.requires.kinds.each x xl) in
     elim c.if-kinds-x.branch [
       | then-kinds-x w ↦ rw w.nodes-is (
-        w.push-reserved.ensures.items ∙ ap (λ ns. ns ++ (Start (get_or c.states-states.result.now x (record { sort = 0; output = 0 })) ∷ [])) c.loop-x.invariant.0
+        w.push_reserved.ensures.items ∙ ap (λ ns. ns ++ (Start (get_or c.states-states.result.now x (record { sort = 0; output = 0 })) ∷ [])) c.loop-x.invariant.0
             ∙ ap (λ (ss : List State). starts_below t x ++ (Start (get_or ss x (record { sort = 0; output = 0 })) ∷ [])) c.states-states.ensures
             ∙ sym (starts_yes t x (leader_yes t x (sym k ∙ w.if-kinds-x.true))) ∙ ap (starts_below t) on,
-        w.push-reserved.ensures.capacity ∙ c.loop-x.invariant.1,
+        w.push_reserved.ensures.capacity ∙ c.loop-x.invariant.1,
       )
       | else-kinds-x w ↦ rw w.nodes-is (c.loop-x.invariant.0 ∙ sym (starts_no t x (leader_no t x (λ e. w.if-kinds-x.false (k ∙ e)))) ∙ ap (starts_below t) on, c.loop-x.invariant.1)
     ]
