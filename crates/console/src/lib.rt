@@ -7,7 +7,7 @@ ghost use Rattle.folder.specs.View.{view_of};
 ghost use Rattle.console.specs.Answer.{Written, Reported, Printed};
 
 use anyhow::anyhow;
-use folder::table::Table;
+use folder::tables::Table;
 use format::reading::LONGEST_FILE;
 use std::alloc::{AllocError, Global};
 use std::io::{Read, Write};

@@ -6,7 +6,7 @@ use Rattle.table.specs.Charts.{system_of}
 use Rattle.table.specs.declared.parts.Node.{Node}
 use Rattle.settle.specs.Grouped.{Grouped}
 use Rattle.settle.specs.declared.refinement.Refinement.{Refinement}
-use Rattle.folder.specs.declared.table.Table.{Table}
+use Rattle.folder.specs.declared.tables.Table.{Table}
 
 -- what settling found: how many groups there are, the group of each state, and the record of splits
 pub record Settlement : Type 0 where
@@ -24,7 +24,7 @@ abbrev pub settlement_of : Option ℕ → Refinement → Option Settlement
 settlement_of (Some n) f = Some (record { count = n; groups = vec_items f.groups; nodes = vec_items f.nodes })
 settlement_of None f = None
 
-abbrev pub view_of : {W L : Type 0} → Table W L → View
+abbrev pub view_of : {W L : Type 0} {g : _} → Table W L g → View
 view_of t = record { system = system_of t.chart; settlement = settlement_of t.groups t.refinement; refusals = t.refusals }
 
 -- a settled table holds what settling finds under its pile

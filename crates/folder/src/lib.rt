@@ -1,4 +1,4 @@
 //! The folder: one table over one pile, with every call that its users make.
 #![tactic(auto)]
 
-pub mod table;
+pub mod tables;

@@ -1,5 +1,5 @@
 //! Tables that are built call by call, and their groups.
-use folder::table::Table;
+use folder::tables::Table;
 use std::alloc::Global;
 use std::test::Fail;
 use table::parts::{Link, State};

@@ -1,9 +1,9 @@
 use Rattle.std.proofs.Common.{vec_items, refl}
 use Rattle.settle.proofs.Groupings.{grouped_length}
-use Rattle.folder.proofs.table.Table.find_groups.Goals as goal
+use Rattle.folder.proofs.tables.Table.find_groups.Goals as goal
 
 pub invariant_of-self : goal.invariant_of-self
-invariant_of-self g c = (λ n e. grouped_length _ _ _ _ _ c.settle-count.ensures, tt)
+invariant_of-self g c = record { lined = λ n e. grouped_length _ _ _ _ _ c.settle-count.ensures }
 
 pub returns : goal.returns
 returns g c = record {
