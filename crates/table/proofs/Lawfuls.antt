@@ -1,6 +1,5 @@
 -- What a chart holds is always lawful, and no more than a table can hold.
-use Rattle.std.proofs.Common.{ℕ, ◌<◌, length, get_or, vec_items, arith, w32, SFits}
-use lib.Signed.{mag}
+use Rattle.std.proofs.Common.{vec_items, arith}
 use Rattle.std.proofs.ByRecursion.{all_from_every}
 use Rattle.table.specs.System.{Lawful, LawfulState, LawfulLink, Small, size}
 use Rattle.table.specs.Charts.{system_of}
