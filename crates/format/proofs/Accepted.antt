@@ -1,6 +1,6 @@
 -- A file is accepted exactly when it is the file of the table that is read.
 use Rattle.std.proofs.Common.{◌≡◌, ℕ, ltb, ◌↔◌, List, [], ◌++◌, length, drop, Ok, sym, refl, ap, ◌∙◌, subst, arith}
-use Rattle.std.specs.List.{flat_map, AllByRecursion as All}
+use Rattle.std.specs.List.{flat_map, AllByRecursion}
 use Rattle.std.proofs.lemmas.List.{append_assoc, append-nil, drop_all, length-drop}
 use Rattle.std.proofs.lemmas.Bool.{ltb-false, le-ltb}
 use Rattle.table.specs.System.{System, size}
@@ -18,7 +18,7 @@ encode_sections : (t : System) → sections t ≡ encode t
 unfolding sections encode
 encode_sections t = append_assoc (bytes_of 2 (size t)) (flat_map state_bytes t.states) (section_bytes link_bytes t.links)
 
-module _ (bytes : List ℕ) (all : All Byte bytes) where
+module _ (bytes : List ℕ) (all : AllByRecursion Byte bytes) where
   accepts_sound : (t : System) → decode bytes ≡ Ok t → FileOf t bytes
   unfolding sections
   accepts_sound t h =
@@ -49,5 +49,5 @@ module _ (bytes : List ℕ) (all : All Byte bytes) where
       let k = (links_section_lem bytes all (size t) (states_end (size t)) f.small.states).complete t.links end [] refl f.small.links f.lawful.links (s.1 ∙ sym (append-nil links)) in
       rw (s.0, k.0, le-ltb end (length bytes) (omega (arith, length-drop end bytes, ap length k.1)))
 
-pub accepts : (bytes : List ℕ) → All Byte bytes → (t : System) → (decode bytes ≡ Ok t) ↔ FileOf t bytes
+pub accepts : (bytes : List ℕ) → AllByRecursion Byte bytes → (t : System) → (decode bytes ≡ Ok t) ↔ FileOf t bytes
 accepts bytes all t = (accepts_sound bytes all t, accepts_complete bytes all t)

@@ -1,6 +1,6 @@
 -- The answer to a file, in the words of the format.
 use Rattle.std.proofs.Common.{◌≡◌, ℕ, ◌<◌, ◌↔◌, List, get_or, Ok, Err, Result, sym, refl, ap, ◌∙◌, arith, w8, Fits}
-use Rattle.std.specs.List.{AllByRecursion as All}
+use Rattle.std.specs.List.{AllByRecursion}
 use Rattle.std.proofs.ByRecursion.{All-from_get_or}
 use Rattle.table.specs.System.{System}
 use Rattle.format.specs.Answers.{answer_of, system_in}
@@ -10,7 +10,7 @@ use Rattle.fault.specs.declared.TableFault.{TableFault}
 use Rattle.format.proofs.Accepted.{accepts}
 
 module _ (bytes : List ℕ) (fits : (i : ℕ) → Fits w8 (get_or bytes i 0)) where
-  all : All (λ b. b < 256) bytes
+  all : AllByRecursion (λ b. b < 256) bytes
   all = All-from_get_or (λ b. b < 256) bytes 0 (λ i l. (fits i).fits)
 
   pub answered : (r : Result (Unit {0}) TableFault) (s : System) → r ≡ answer_of (decode bytes) → s ≡ system_in (decode bytes) → (t : System) → ((r ≡ Ok tt) × (s ≡ t)) ↔ FileOf t bytes

@@ -1,6 +1,6 @@
 -- Numbers and their bytes, and the fields of a file.
 use Rattle.std.proofs.Common.{◌≡◌, ℕ, zero, suc, ◌+◌, ◌*◌, ◌/◌, ◌%◌, ◌^◌, ◌<◌, Bool, true, false, cond, leb, List, [], ◌∷◌, ◌++◌, length, take, drop, Ok, Err, Result, sym, refl, ap, ◌∙◌, ap₂, pow-suc, arith}
-use Rattle.std.specs.List.{AllByRecursion as All}
+use Rattle.std.specs.List.{AllByRecursion}
 use Rattle.std.proofs.lemmas.List.{append_assoc, drop_at, drop-drop, length-append, length-drop, length-take-le, take-append-drop, take_at}
 use Rattle.std.proofs.ByRecursion.{All-take, All-drop}
 use Rattle.std.proofs.lemmas.Bool.{leb-true}
@@ -23,14 +23,14 @@ numeral_bytes_of (suc w) v h =
     let e = numeral_bytes_of w (v / 256) (omega arith) in
     omega arith
 
-numeral_lt : (bs : List ℕ) → All Byte bs → numeral bs < 256 ^ length bs
+numeral_lt : (bs : List ℕ) → AllByRecursion Byte bs → numeral bs < 256 ^ length bs
 numeral_lt [] h = omega arith
 numeral_lt (b ∷ bs) h =
     let p = pow-suc 256 (length bs) in
     let l = numeral_lt bs h.1 in
     omega arith
 
-bytes_of_numeral : (bs : List ℕ) → All Byte bs → bytes_of (length bs) (numeral bs) ≡ bs
+bytes_of_numeral : (bs : List ℕ) → AllByRecursion Byte bs → bytes_of (length bs) (numeral bs) ≡ bs
 bytes_of_numeral [] h = refl
 bytes_of_numeral (b ∷ bs) h =
     let low : (b + 256 * numeral bs) % 256 ≡ b = omega arith in
@@ -74,7 +74,7 @@ module _ (bytes : List ℕ) where
   split at w to xs ys rest t l e = let f = e ∙ append_assoc xs ys rest in (f, past at w to xs (ys ++ rest) t l f)
 
   -- a field holds the bytes of what is read, and the bytes of a number are read as it
-  pub field_sound : All Byte bytes → (w at to item v : ℕ) → at + w ≡ to → field_at w bytes at item ≡ Ok v → (v < 256 ^ w) × (drop at bytes ≡ bytes_of w v ++ drop to bytes)
+  pub field_sound : AllByRecursion Byte bytes → (w at to item v : ℕ) → at + w ≡ to → field_at w bytes at item ≡ Ok v → (v < 256 ^ w) × (drop at bytes ≡ bytes_of w v ++ drop to bytes)
   field_sound all w at to item v t h =
       let k = kept (leb (at + w) (length bytes)) (numeral (take w (drop at bytes))) v _ h in
       let within = leb-true (at + w) (length bytes) k.0 in

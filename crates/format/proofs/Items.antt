@@ -1,7 +1,7 @@
 -- A state, a link, and the sections of a file.
 use Rattle.std.proofs.Common.{◌≡◌, ℕ, zero, suc, ◌+◌, ◌*◌, ◌<◌, ◌≤◌, ltb, leb, List, [], ◌∷◌, ◌++◌, length, drop, Ok, Result, sym, refl, ap, ◌∙◌, subst, ap₂, mul-zero, mul-suc, arith, w32, SFits, to_z, of_z}
 use mir.Facts.{sfits_to_z, Fits-of_z}
-use Rattle.std.specs.List.{flat_map, AllByRecursion as All}
+use Rattle.std.specs.List.{flat_map, AllByRecursion}
 use Rattle.std.proofs.lemmas.List.{append_assoc, append-nil, length-append}
 use Rattle.std.proofs.lemmas.Int.{of_z-to_z, to_z-of_z}
 use Rattle.std.proofs.lemmas.Bool.{leb-false, ltb-false, lt-leb, le-ltb}
@@ -25,15 +25,15 @@ record Reads (bytes : List ℕ) {X E : Type 0} (step : ℕ → ℕ → Result X 
 
 -- the same of a section, which has no more than most of them
 pub record Section (bytes : List ℕ) {X E : Type 0} (r : Result (List X) E) (write : X → List ℕ) (w most at : ℕ) (P : X → Type 0) : Type 0 where
-  pub sound : (xs : List X) (to : ℕ) → at + 2 + w * length xs ≡ to → r ≡ Ok xs → (length xs ≤ most) × All P xs × (drop at bytes ≡ section_bytes write xs ++ drop to bytes)
-  pub complete : (xs : List X) (to : ℕ) (rest : List ℕ) → at + 2 + w * length xs ≡ to → length xs ≤ most → All P xs → drop at bytes ≡ section_bytes write xs ++ rest → (r ≡ Ok xs) × (drop to bytes ≡ rest)
+  pub sound : (xs : List X) (to : ℕ) → at + 2 + w * length xs ≡ to → r ≡ Ok xs → (length xs ≤ most) × AllByRecursion P xs × (drop at bytes ≡ section_bytes write xs ++ drop to bytes)
+  pub complete : (xs : List X) (to : ℕ) (rest : List ℕ) → at + 2 + w * length xs ≡ to → length xs ≤ most → AllByRecursion P xs → drop at bytes ≡ section_bytes write xs ++ rest → (r ≡ Ok xs) × (drop to bytes ≡ rest)
 
 module _ (bytes : List ℕ) {X E : Type 0} (step : ℕ → ℕ → Result X E) (write : X → List ℕ) (w : ℕ) (P : X → Type 0) (reads : Reads bytes step write w P)
     (from : ℕ → ℕ → List X → ℕ → Result (List X) E)
     (done : (at item : ℕ) (acc : List X) → from at item acc 0 ≡ Ok acc)
     (more : (at item : ℕ) (acc : List X) (left : ℕ) → from at item acc (suc left) ≡ and_then (λ f. f) (step at item) (λ x. from (at + w) (item + 1) (acc ++ (x ∷ [])) left)) where
   items_sound : (at item : ℕ) (acc : List X) (left to : ℕ) (res : List X) → at + w * left ≡ to → from at item acc left ≡ Ok res →
-      (xs : List X) × (res ≡ acc ++ xs) × (length xs ≡ left) × All P xs × (drop at bytes ≡ flat_map write xs ++ drop to bytes)
+      (xs : List X) × (res ≡ acc ++ xs) × (length xs ≡ left) × AllByRecursion P xs × (drop at bytes ≡ flat_map write xs ++ drop to bytes)
   items_sound at item acc zero to res t h =
       let e : acc ≡ res = cc (done at item acc) in
       ([], sym e ∙ sym (append-nil acc), refl, tt, ap (λ k. drop k bytes) (omega (arith, mul-zero w)))
@@ -43,7 +43,7 @@ module _ (bytes : List ℕ) {X E : Type 0} (step : ℕ → ℕ → Result X E) (
       let r = items_sound (at + w) (item + 1) (acc ++ (x ∷ [])) left to res (omega (arith, mul-suc w left)) later in
       (x ∷ r.0, r.1 ∙ append_assoc acc (x ∷ []) r.0, ap suc r.2, (one.0, r.3), join bytes at (at + w) to (write x) (flat_map write r.0) one.1 r.4)
 
-  items_complete : (at item : ℕ) (acc xs : List X) (rest : List ℕ) → All P xs → drop at bytes ≡ flat_map write xs ++ rest → from at item acc (length xs) ≡ Ok (acc ++ xs)
+  items_complete : (at item : ℕ) (acc xs : List X) (rest : List ℕ) → AllByRecursion P xs → drop at bytes ≡ flat_map write xs ++ rest → from at item acc (length xs) ≡ Ok (acc ++ xs)
   items_complete at item acc [] rest h e = done at item acc ∙ ap Ok (sym (append-nil acc))
   items_complete at item acc (x ∷ xs) rest h e =
       let k = split bytes at w (at + w) (write x) (flat_map write xs) rest refl (reads.sized x) e in
@@ -56,7 +56,7 @@ module _ (bytes : List ℕ) {X E : Type 0} (step : ℕ → ℕ → Result X E) (
   items_sized [] = sym (mul-zero w)
   items_sized (x ∷ xs) = length-append (write x) (flat_map write xs) ∙ omega (arith, reads.sized x, items_sized xs, mul-suc w (length xs))
 
-  section : All Byte bytes → (up : ByteFault → E) (most at : ℕ) (full : E) → most < 65536 →
+  section : AllByRecursion Byte bytes → (up : ByteFault → E) (most at : ℕ) (full : E) → most < 65536 →
       Section bytes (and_then (λ f. f) (allowed up (ltb most) full (field_at 2 bytes at 0)) (from (at + 2) 1 [])) write w most at P
   section all up most at full small = record {
     sound = λ xs to t h.
@@ -66,7 +66,7 @@ module _ (bytes : List ℕ) {X E : Type 0} (step : ℕ → ℕ → Result X E) (
         let n : count ≡ length xs = sym (ap length s.1 ∙ s.2) in
         let first : drop at bytes ≡ bytes_of 2 (length xs) ++ drop (at + 2) bytes = (field_sound bytes all 2 at (at + 2) 0 count refl counted.0).1 ∙ ap (λ m. bytes_of 2 m ++ drop (at + 2) bytes) n in
         let rest : drop (at + 2) bytes ≡ flat_map write xs ++ drop to bytes = s.4 ∙ ap₂ (λ ys m. flat_map write ys ++ drop m bytes) (sym s.1) (ap (λ m. at + 2 + w * m) n ∙ t) in
-        (omega (arith, ltb-false most count counted.1), subst (All P) (sym s.1) s.3, join bytes at (at + 2) to (bytes_of 2 (length xs)) (flat_map write xs) first rest);
+        (omega (arith, ltb-false most count counted.1), subst (AllByRecursion P) (sym s.1) s.3, join bytes at (at + 2) to (bytes_of 2 (length xs)) (flat_map write xs) first rest);
     complete = λ xs to rest t l h e.
         let k = split bytes at 2 (at + 2) (bytes_of 2 (length xs)) (flat_map write xs) rest refl refl e in (
           rw (allowed_ok up (ltb most) full (field_at 2 bytes at 0) (length xs) (field_complete bytes 2 at 0 (length xs) _ (omega arith) (omega arith) k.0) (le-ltb most (length xs) l), items_complete (at + 2) 1 [] xs rest h k.1),
@@ -74,7 +74,7 @@ module _ (bytes : List ℕ) {X E : Type 0} (step : ℕ → ℕ → Result X E) (
         );
   }
 
-module _ (bytes : List ℕ) (all : All Byte bytes) where
+module _ (bytes : List ℕ) (all : AllByRecursion Byte bytes) where
   reads_state : Reads bytes (state_fields bytes) state_bytes 3 LawfulState
   reads_state = record {
     sound = λ at item x h.

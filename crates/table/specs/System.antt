@@ -1,7 +1,7 @@
 -- States and links, the figures of the states, and which groupings of them are fair.
 use Rattle.std.specs.Prelude.{◌≡◌, ℕ, ◌^◌, ◌<◌, ◌≤◌, Bool, ◌&&◌, List, map, length, ℤ, filter, FitsSigned, ◌==◌, slice_index_or}
 use Rattle.std.specs.Int.{w32}
-use Rattle.std.specs.List.{AllByRecursion as All}
+use Rattle.std.specs.List.{AllByRecursion}
 use Rattle.weigher.specs.Figure.{Figure}
 use Rattle.table.specs.declared.parts.State.{State}
 use Rattle.table.specs.declared.parts.Link.{Link}
@@ -27,8 +27,8 @@ pub record LawfulLink (n : ℕ) (k : Link) : Type 0 where
   pub target : k.target < n
 
 pub record Lawful (t : System) : Type 0 where
-  pub states : All LawfulState t.states
-  pub links : All (LawfulLink (size t)) t.links
+  pub states : AllByRecursion LawfulState t.states
+  pub links : AllByRecursion (LawfulLink (size t)) t.links
 
 -- no more than a table can hold
 pub record Small (t : System) : Type 0 where

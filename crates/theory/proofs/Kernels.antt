@@ -1,6 +1,6 @@
 -- Group numbers and the folded table depend on which states are together, and on nothing else of a grouping.
 use Rattle.std.proofs.Common.{◌≡◌, ℕ, ◌<◌, ◌≤◌, eqb, ◌↔◌, List, [], ◌∷◌, map, refl, ap, ◌∙◌, ap₂, arith}
-use Rattle.std.specs.List.{range_with_len, flat_map, AllByRecursion as All}
+use Rattle.std.specs.List.{range_with_len, flat_map, AllByRecursion}
 use Rattle.std.proofs.lemmas.List.FromFn.{length-range_with_len, get_or-range_with_len}
 use Rattle.std.proofs.ByRecursion.{All-from_get_or, All-weaker, all_kept_by}
 use Rattle.table.specs.System.{System, Lawful, LawfulLink, size, state_at}
@@ -15,11 +15,11 @@ use Rattle.theory.proofs.Groups.{smallest_like, smallest_least}
 pub unique : Unique
 unique fig t g h p q x y xl yl = (q.1 g p.0 x y xl yl, p.1 h q.0 x y xl yl)
 
-same_map : {X Y : Type 0} (f h : X → Y) (xs : List X) → All (λ x. f x ≡ h x) xs → map f xs ≡ map h xs
+same_map : {X Y : Type 0} (f h : X → Y) (xs : List X) → AllByRecursion (λ x. f x ≡ h x) xs → map f xs ≡ map h xs
 same_map f h [] e = refl
 same_map f h (x ∷ xs) e = ap₂ ◌∷◌ e.0 (same_map f h xs e.1)
 
-counting_below : (n : ℕ) → All (λ x. x < n) (range_with_len 0 n)
+counting_below : (n : ℕ) → AllByRecursion (λ x. x < n) (range_with_len 0 n)
 counting_below n = All-from_get_or (λ x. x < n) (range_with_len 0 n) 0 (λ i l. omega (arith, get_or-range_with_len 0 n i 0 (omega (arith, length-range_with_len 0 n)), length-range_with_len 0 n))
 
 smallest_under : (g h : ℕ → ℕ) (n : ℕ) → ((x y : ℕ) → x < n → y < n → h x ≡ h y → g x ≡ g y) → (x : ℕ) → x < n → smallest g x ≤ smallest h x

@@ -1,6 +1,6 @@
 -- The weights into a set: what they depend on, that they are in range, and how they split.
 use Rattle.std.proofs.Common.{◌≡◌, ℕ, ◌<◌, Bool, true, false, cond, not, ◌&&◌, eqb, List, [], ◌∷◌, ◌++◌, map, filter, refl, ap, ◌∙◌, subst, arith, w32, SFits}
-use Rattle.std.specs.List.{AllByRecursion as All}
+use Rattle.std.specs.List.{AllByRecursion}
 use Rattle.std.specs.List.Sorted.{IsPermutation}
 use Rattle.std.proofs.ByRecursion.{All-map, all_kept_by, All-weaker}
 use Rattle.std.proofs.lemmas.List.Sorted.{IsPermutation-refl, IsPermutation-cons, IsPermutation-trans, IsPermutation-swap}
@@ -29,11 +29,11 @@ split_kept p c (x ∷ xs) = go (p x) (c x) (split_kept p c xs)
     go true true h = IsPermutation-cons x.weight _ _ h
     go true false h = IsPermutation-trans _ _ _ (IsPermutation-cons x.weight _ _ h) (shuffled_middle _ _ x.weight)
 
-pub same_kept : {X : Type 0} (p q : X → Bool) (xs : List X) → All (λ k. p k ≡ q k) xs → filter p xs ≡ filter q xs
+pub same_kept : {X : Type 0} (p q : X → Bool) (xs : List X) → AllByRecursion (λ k. p k ≡ q k) xs → filter p xs ≡ filter q xs
 same_kept p q [] h = refl
 same_kept p q (x ∷ xs) h = rw (h.0, same_kept p q xs h.1)
 
-pub none_kept : (p : Link → Bool) (xs : List Link) → All (λ k. p k ≡ false) xs → filter p xs ≡ []
+pub none_kept : (p : Link → Bool) (xs : List Link) → AllByRecursion (λ k. p k ≡ false) xs → filter p xs ≡ []
 none_kept p [] h = refl
 none_kept p (x ∷ xs) h = rw (h.0, none_kept p xs h.1)
 

@@ -1,7 +1,7 @@
 -- The small tables, by computation.
 use Rattle.std.proofs.Common.{◌≡◌, ℕ, ◌^◌, ◌<◌, Bool, true, ◌&&◌, ltb, ◌↔◌, List, [], ◌∷◌, IfSome, Some, None, Option, refl, ◌∙◌, subst}
 use lib.Signed.{mag}
-use Rattle.std.specs.List.{AllByRecursion as All}
+use Rattle.std.specs.List.{AllByRecursion}
 use Rattle.std.specs.Int.{int_wrap}
 use Rattle.std.proofs.lemmas.Bool.{and_parts, ltb-true}
 use Rattle.weigher.specs.Figure.{Order, Joining}
@@ -28,7 +28,7 @@ good_state s = ltb s.sort 4 && ltb s.output (2 ^ 16)
 abbrev good_link : ℕ → Link → Bool
 good_link n k = (ltb k.source n && ltb k.label 64) && (ltb (mag k.weight) (2 ^ 31) && ltb k.target n)
 
-all_each : {X : Type 0} (p : X → Bool) (P : X → Type 0) → ((x : X) → p x ≡ true → P x) → (xs : List X) → each p xs ≡ true → All P xs
+all_each : {X : Type 0} (p : X → Bool) (P : X → Type 0) → ((x : X) → p x ≡ true → P x) → (xs : List X) → each p xs ≡ true → AllByRecursion P xs
 all_each p P h [] e = tt
 all_each p P h (x ∷ xs) e = (h x (and_parts (p x) (each p xs) e).0, all_each p P h xs (and_parts (p x) (each p xs) e).1)
 

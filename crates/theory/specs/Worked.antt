@@ -1,6 +1,6 @@
 -- Small tables with the groups that they settle to.
 use Rattle.std.specs.Prelude.{◌≡◌, ℕ, List, [], ◌∷◌, map, ℤ, pos, negsuc, IfSome, Some, None, Option}
-use Rattle.std.specs.List.{AllByRecursion as All}
+use Rattle.std.specs.List.{AllByRecursion}
 use Rattle.weigher.specs.Figure.{Figure, Order, Joining}
 use Rattle.weigher.specs.Weighers.{reach, sum, greatest, blind, buttons, timed}
 use Rattle.table.specs.System.{System, Lawful, Settled, size}
@@ -89,4 +89,4 @@ cases =
     ∷ []
 
 abbrev pub Worked : Type 0
-Worked = All Shows cases
+Worked = AllByRecursion Shows cases

@@ -1,7 +1,7 @@
 -- What a weigher means: its figure, and the two laws that make it lawful.
 use Rattle.std.specs.Prelude.{◌≡◌, ℕ, ◌<◌, List, ◌++◌, ℤ, FitsSigned}
 use Rattle.std.specs.Int.{w32}
-use Rattle.std.specs.List.{AllByRecursion as All}
+use Rattle.std.specs.List.{AllByRecursion}
 use Rattle.std.specs.List.Sorted.{IsPermutation}
 
 -- the figure of a list of weights, at a sort and a label
@@ -10,7 +10,7 @@ Figure = ℕ → ℕ → List ℤ → ℤ
 
 -- every weight fits 32 bits, signed
 abbrev pub InRange : List ℤ → Type 0
-InRange ws = All (FitsSigned w32) ws
+InRange ws = AllByRecursion (FitsSigned w32) ws
 
 -- a list and any rearrangement of it have the same figure
 abbrev pub Order : Figure → Type 0
