@@ -6,11 +6,11 @@ ghost use Rattle.format.specs.Walk.{decode};
 ghost use Rattle.folder.specs.View.{view_of};
 ghost use Rattle.console.specs.Answer.{Written, Reported, Printed};
 
-use anyhow::anyhow;
 use folder::tables::Table;
 use format::reading::LONGEST_FILE;
 use std::alloc::{AllocError, Global};
 use std::io::{Read, Write};
+use std::process::ExitCode;
 use table::parts::Refusal;
 use weigher::Weigher;
 
@@ -72,16 +72,16 @@ where
     Ok(answer_file(rt.alloc(), pile, bytes.as_slice())?)
 }
 
-/// Reads a file from standard input and prints the answer; a refused file is an error.
-pub fn run<W: Weigher>(rt: &HostRuntime, pile: W) -> anyhow::Result<()>
+/// Reads a file from standard input and prints the answer; a refused file is a failure, of which nothing more is said.
+pub fn run<W: Weigher>(rt: &HostRuntime, pile: W) -> anyhow::Result<ExitCode>
 where
     W: Drop,
 {
     let answer = answer_input(rt, pile)?;
     rt.stdout().write_all(answer.text.as_slice())?;
     if answer.accepted {
-        Ok(())
+        Ok(ExitCode::SUCCESS)
     } else {
-        Err(anyhow!("refused"))
+        Ok(ExitCode::FAILURE)
     }
 }
