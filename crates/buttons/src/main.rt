@@ -2,8 +2,9 @@
 #![tactic(auto)]
 
 use std::process::ExitCode;
-use weigher::plain::Reach;
+use weigher::piles::{Buttons, Pile};
 
+// a program for each pile; what they do is `console::run`
 fn main(rt: HostRuntime) -> anyhow::Result<ExitCode> {
-    console::run(&rt, Reach)
+    console::run(&rt, Buttons::PILE)
 }

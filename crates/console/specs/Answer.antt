@@ -1,5 +1,5 @@
 -- What the programs print about a file.
-use Rattle.std.specs.Prelude.{◌≡◌, ℕ, Bool, true, false, List, [], ◌∷◌, ◌++◌, length, Ok, Err, Result}
+use Rattle.std.specs.Prelude.{◌≡◌, ℕ, Vec, String, string_bytes, List, [], ◌∷◌, ◌++◌, length, Ok, Err, Result}
 use Rattle.weigher.specs.Figure.{Figure}
 use Rattle.table.specs.System.{System}
 use Rattle.fault.specs.Faults.{line_of}
@@ -21,6 +21,8 @@ Written fig t before r after =
     × (r ≡ whole_answer before (report_of (length t.links) s.groups s.count)) × (after ≡ whole_buffer before (report_of (length t.links) s.groups s.count))
 
 -- the report of the file's table, or why the file is refused in one line
-abbrev pub Printed : Figure → Result System TableFault → Bool → List ℕ → Type 0
-Printed fig (Ok t) accepted text = (accepted ≡ true) × Reported fig t text
-Printed fig (Err f) accepted text = (accepted ≡ false) × (text ≡ line_of f ++ (10 ∷ []))
+abbrev pub Printed : {Z : Type 0} → Figure → Result System TableFault → Result (Vec ℕ Z) (String Z) → Type 0
+Printed fig (Ok t) (Ok text) = Reported fig t text.items
+Printed fig (Ok t) (Err line) = ⊥
+Printed fig (Err f) (Ok text) = ⊥
+Printed fig (Err f) (Err line) = string_bytes line ≡ line_of f ++ (10 ∷ [])

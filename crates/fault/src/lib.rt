@@ -2,15 +2,15 @@
 #![tactic(auto)]
 
 ghost use Rattle.std.specs.Prelude.{◌≡◌, Some};
-ghost use Rattle.fault.specs.declared.StatesFault.TheVariants.{Cut as StatesCut};
-ghost use Rattle.fault.specs.declared.LinksFault.TheVariants.{Cut as LinksCut};
+ghost use Rattle.table.specs.declared.parts.Refusal.{Refusal};
+ghost use Rattle.fault.specs.declared.SectionFault.TheVariants.{Cut};
 ghost use Rattle.fault.specs.declared.TableFault.TheVariants.{States, Links};
-ghost use Rattle.fault.specs.Faults.{states_place, links_place, refusal_of, table_place, section_of, line_of};
+ghost use Rattle.fault.specs.Faults.{section_place, section_refusal, states_refusal, links_refusal, refusal_of, table_place, section_of, line_of};
 
 use std::fmt;
 use table::parts::Refusal;
 
-/// Where a field stands: the offset of its first byte, and its item, from 1; 0 is a count.
+/// Where a field stands: the offset of its first byte, and its item, from 1; 0 is a count. It is no `Option`, since the line of a fault says 0.
 #[derive(Clone, Copy, PartialEq, Eq, Debug)]
 pub struct Place {
     pub offset: usize,
@@ -23,23 +23,34 @@ pub struct ByteFault {
     pub place: Place,
 }
 
-/// The section of states: a field is cut, or its value is not allowed.
+/// The layer of a section: a field is cut, or the value of field F is not allowed.
 #[derive(Clone, Copy, PartialEq, Eq, Debug)]
-pub enum StatesFault {
+pub enum SectionFault<F> {
     Cut(ByteFault),
-    Count(Place),
-    Sort(Place),
+    Value { field: F, place: Place },
 }
 
-/// The section of links: a field is cut, or its value is not allowed.
+/// The fields of the states whose values are checked.
 #[derive(Clone, Copy, PartialEq, Eq, Debug)]
-pub enum LinksFault {
-    Cut(ByteFault),
-    Count(Place),
-    Source(Place),
-    Label(Place),
-    Target(Place),
+pub enum StatesField {
+    Count,
+    Sort,
 }
+
+/// The fields of the links whose values are checked.
+#[derive(Clone, Copy, PartialEq, Eq, Debug)]
+pub enum LinksField {
+    Count,
+    Source,
+    Label,
+    Target,
+}
+
+/// A fault of the section of states.
+pub type StatesFault = SectionFault<StatesField>;
+
+/// A fault of the section of links.
+pub type LinksFault = SectionFault<LinksField>;
 
 /// The whole file: a fault of a section, or bytes after the links.
 #[derive(Clone, Copy, PartialEq, Eq, Debug)]
@@ -49,22 +60,23 @@ pub enum TableFault {
     After { offset: usize },
 }
 
-impl From<ByteFault> for StatesFault {
-    ghost from_gives = { λ x r. r ≡ StatesCut x };
+/// The sections of a file, with the numbers by which users know them.
+#[derive(Clone, Copy, PartialEq, Eq, Debug)]
+pub enum Section {
+    States = 1,
+    Links = 2,
+    End = 3,
+}
 
-    fn from(x: ByteFault) -> StatesFault {
-        StatesFault::Cut(x)
+impl<F> From<ByteFault> for SectionFault<F> {
+    ghost from_gives = { λ x r. r ≡ Cut x };
+
+    fn from(x: ByteFault) -> SectionFault<F> {
+        SectionFault::Cut(x)
     }
 }
 
-impl From<ByteFault> for LinksFault {
-    ghost from_gives = { λ x r. r ≡ LinksCut x };
-
-    fn from(x: ByteFault) -> LinksFault {
-        LinksFault::Cut(x)
-    }
-}
-
+// One for each section: a `From` over the field would not know which case it is.
 impl From<StatesFault> for TableFault {
     ghost from_gives = { λ x r. r ≡ States x };
 
@@ -81,29 +93,56 @@ impl From<LinksFault> for TableFault {
     }
 }
 
-impl StatesFault {
-    /// The place of the field.
-    pub fn place(self) -> Place
-        ensures { result ≡ states_place self }
-    {
+/// A field whose value is checked.
+pub trait Field: Copy {
+    // why a value that is not allowed there is refused
+    ghost refused: { Self → Refusal };
+
+    fn refusal(self) -> Refusal
+        ensures { result ≡ refused self };
+}
+
+impl Field for StatesField {
+    ghost refused = { states_refusal };
+
+    fn refusal(self) -> Refusal {
         match self {
-            StatesFault::Cut(fault) => fault.place,
-            StatesFault::Count(place) | StatesFault::Sort(place) => place,
+            StatesField::Count => Refusal::Full,
+            StatesField::Sort => Refusal::BadSort,
         }
     }
 }
 
-impl LinksFault {
-    /// The place of the field.
-    pub fn place(self) -> Place
-        ensures { result ≡ links_place self }
+impl Field for LinksField {
+    ghost refused = { links_refusal };
+
+    fn refusal(self) -> Refusal {
+        match self {
+            LinksField::Count => Refusal::Full,
+            LinksField::Source | LinksField::Target => Refusal::NoSuchNumber,
+            LinksField::Label => Refusal::BadLabel,
+        }
+    }
+}
+
+impl<F: Field> SectionFault<F> {
+    /// Why the file is refused.
+    pub fn refusal(self) -> Refusal
+        ensures { result ≡ section_refusal F.refused self }
     {
         match self {
-            LinksFault::Cut(fault) => fault.place,
-            LinksFault::Count(place)
-            | LinksFault::Source(place)
-            | LinksFault::Label(place)
-            | LinksFault::Target(place) => place,
+            SectionFault::Cut(_) => Refusal::CutShort,
+            SectionFault::Value { field, .. } => field.refusal(),
+        }
+    }
+
+    /// The place of the field.
+    pub fn place(self) -> Place
+        ensures { result ≡ section_place self }
+    {
+        match self {
+            SectionFault::Cut(fault) => fault.place,
+            SectionFault::Value { place, .. } => place,
         }
     }
 }
@@ -114,14 +153,8 @@ impl TableFault {
         ensures { result ≡ refusal_of self }
     {
         match self {
-            TableFault::States(StatesFault::Cut(_)) => Refusal::CutShort,
-            TableFault::States(StatesFault::Count(_)) => Refusal::Full,
-            TableFault::States(StatesFault::Sort(_)) => Refusal::BadSort,
-            TableFault::Links(LinksFault::Cut(_)) => Refusal::CutShort,
-            TableFault::Links(LinksFault::Count(_)) => Refusal::Full,
-            TableFault::Links(LinksFault::Source(_)) => Refusal::NoSuchNumber,
-            TableFault::Links(LinksFault::Label(_)) => Refusal::BadLabel,
-            TableFault::Links(LinksFault::Target(_)) => Refusal::NoSuchNumber,
+            TableFault::States(fault) => fault.refusal(),
+            TableFault::Links(fault) => fault.refusal(),
             TableFault::After { .. } => Refusal::TrailingBytes,
         }
     }
@@ -137,14 +170,14 @@ impl TableFault {
         }
     }
 
-    /// The section: 1 the states, 2 the links, 3 the end of the file.
-    pub fn section(self) -> u8
+    /// The section that the fault is found in.
+    pub fn section(self) -> Section
         ensures { result ≡ section_of self }
     {
         match self {
-            TableFault::States(_) => 1,
-            TableFault::Links(_) => 2,
-            TableFault::After { .. } => 3,
+            TableFault::States(_) => Section::States,
+            TableFault::Links(_) => Section::Links,
+            TableFault::After { .. } => Section::End,
         }
     }
 }
@@ -155,9 +188,8 @@ impl fmt::Display for TableFault {
 
     fn fmt<W: fmt::Write>(&self, f: &mut fmt::Formatter<W>) -> fmt::Result {
         let number = self.refusal().number();
-        let offset = self.place().offset;
-        let section = self.section();
-        let item = self.place().item;
+        let Place { offset, item } = self.place();
+        let section = self.section() as u8;
         write!(
             f,
             "refused {number} byte {offset} section {section} item {item}"

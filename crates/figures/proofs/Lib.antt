@@ -1,3 +1,2 @@
-mod Chains
 mod Walks
 pub mod Labels

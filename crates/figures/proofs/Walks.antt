@@ -1,11 +1,11 @@
 -- The weights of the links so far, along the links of one source and label.
-use Rattle.std.proofs.Common.{◌≡◌, ℕ, zero, suc, ◌+◌, ◌-◌, ◌<◌, ◌≤◌, Bool, true, false, cond, List, [], ◌∷◌, ◌++◌, map, length, take, ℤ, filter, sym, refl, ap, ◌∙◌, subst, inl, inr, arith, eq-eqb, ne_eqb}
+use Rattle.std.proofs.Common.{◌≡◌, ℕ, zero, suc, ◌+◌, ◌-◌, ◌<◌, ◌≤◌, Bool, true, false, cond, List, [], ◌∷◌, ◌++◌, map, length, take, ℤ, filter, Some, None, Option, sym, refl, ap, ◌∙◌, subst, inl, inr, arith, eq-eqb, ne_eqb}
 use Rattle.std.proofs.lemmas.List.Elements.{filter_more}
 use Rattle.std.proofs.lemmas.List.{map-append, append-nil, take_all}
 use Rattle.std.proofs.lemmas.Bool.{cases_eq}
 use Rattle.table.specs.System.{leads}
 use Rattle.table.specs.declared.parts.Link.{Link}
-use Rattle.figures.specs.Index.{Follows, link_at, no_link}
+use Rattle.figures.specs.Index.{Follows, There, place_of, link_at, no_link}
 
 module _ (links : List Link) (x l : ℕ) (S : ℕ → Bool) where
   -- the weights of the first i links that leave x with the label into S
@@ -51,14 +51,17 @@ module _ (links : List Link) (x l : ℕ) (S : ℕ → Bool) where
       let e : sofar (i + suc d) ≡ sofar (i + d + 1) = ap sofar (omega arith) in
       e ∙ walk_other (i + d) (omega arith) (none (i + d) (omega arith) (omega arith)) ∙ walk_on d i (omega arith) (λ k a b. none k a (omega arith))
 
-  pub walk_to : (i j : ℕ) → Follows links x l i j → sofar j ≡ sofar i
-  walk_to i j f =
-      let a = f.from in
-      let b = f.end in
-      let e : i + (j - i) ≡ j = omega arith in
-      sym (ap sofar e) ∙ walk_on (j - i) i (omega arith) (λ k low high. f.none k low (omega arith))
+  pub walk_to : (i : ℕ) (o : Option ℕ) → Follows links x l i o → sofar (place_of links o) ≡ sofar i
+  walk_to i o f =
+      let j : ℕ = place_of links o in
+      let e : i + (j - i) ≡ j = omega (arith, f.from) in
+      sym (ap sofar e) ∙ walk_on (j - i) i (omega (arith, place_low o f.there)) (λ k low high. f.none k low (omega arith))
+    where
+      place_low : (o : Option ℕ) → There links o → place_of links o ≤ length links
+      place_low None h = omega arith
+      place_low (Some j) h = let l = h j refl in omega arith
 
   -- what is fed so far at a link is fed so far at the next of its kind
-  pub walked : (H : List ℤ → Type 0) (i j : ℕ) → Follows links x l i j → H (sofar i) →
-      H (sofar j) × (j ≤ length links) × (j < length links → (link_at links j).source ≡ x) × (j < length links → (link_at links j).label ≡ l)
-  walked H i j f h = (subst H (sym (walk_to i j f)) h, f.end, f.source, f.label)
+  pub walked : (H : List ℤ → Type 0) (i : ℕ) (o : Option ℕ) → Follows links x l i o → H (sofar i) →
+      H (sofar (place_of links o)) × There links o × (place_of links o < length links → (link_at links (place_of links o)).source ≡ x) × (place_of links o < length links → (link_at links (place_of links o)).label ≡ l)
+  walked H i o f h = (subst H (sym (walk_to i o f)) h, f.there, f.source, f.label)

@@ -1,11 +1,12 @@
 -- The links of each source and label, in the order of the table.
-use Rattle.std.specs.Prelude.{◌≡◌, ℕ, ◌+◌, ◌*◌, ◌<◌, ◌≤◌, List, length, pos, vec_items, ◌≢◌, slice_index, slice_index_or}
+use Rattle.std.specs.Prelude.{◌≡◌, ℕ, ◌+◌, ◌*◌, ◌<◌, ◌≤◌, List, length, Some, None, Option, pos, ◌≢◌, slice_index_or}
+use Rattle.std.specs.Option.{unwrap_or}
 use Rattle.table.specs.System.{System, size}
 use Rattle.table.specs.declared.parts.Link.{Link}
 use Rattle.figures.specs.declared.index.Index.{Index}
 
-abbrev pub at : List ℕ → ℕ → ℕ
-at xs k = slice_index xs k
+abbrev pub link_in : List (Option ℕ) → ℕ → Option ℕ
+link_in xs k = slice_index_or xs k None
 
 abbrev pub no_link : Link
 no_link = record { source = 0; label = 0; weight = pos 0; target = 0 }
@@ -17,21 +18,28 @@ link_at links i = slice_index_or links i no_link
 abbrev pub cell : ℕ → ℕ → ℕ
 cell x l = x * 64 + l
 
--- j is the first link of a source and label from i on, or the end
-pub record Follows (links : List Link) (x l i j : ℕ) : Type 0 where
-  pub from : i ≤ j
-  pub end : j ≤ length links
-  pub source : j < length links → (link_at links j).source ≡ x
-  pub label : j < length links → (link_at links j).label ≡ l
-  pub none : (k : ℕ) → i ≤ k → k < j → (link_at links k).source ≡ x → (link_at links k).label ≢ l
+-- the place of a link, or the end of the links
+abbrev pub place_of : List Link → Option ℕ → ℕ
+place_of links o = unwrap_or o (length links)
+
+abbrev pub There : List Link → Option ℕ → Type 0
+There links o = (j : ℕ) → o ≡ Some j → j < length links
+
+-- o is the first link of a source and label from i on
+pub record Follows (links : List Link) (x l i : ℕ) (o : Option ℕ) : Type 0 where
+  pub there : There links o
+  pub from : i ≤ place_of links o
+  pub source : place_of links o < length links → (link_at links (place_of links o)).source ≡ x
+  pub label : place_of links o < length links → (link_at links (place_of links o)).label ≡ l
+  pub none : (k : ℕ) → i ≤ k → k < place_of links o → (link_at links k).source ≡ x → (link_at links k).label ≢ l
 
 -- links among n states, indexed from the i-th on
-pub record Indexed (n : ℕ) (links : List Link) (firsts nexts : List ℕ) (i : ℕ) : Type 0 where
+pub record Indexed (n : ℕ) (links : List Link) (firsts nexts : List (Option ℕ)) (i : ℕ) : Type 0 where
   pub cells : length firsts ≡ n * 64
   pub len : length nexts ≡ length links
-  pub first : (x l : ℕ) → x < n → l < 64 → Follows links x l i (at firsts (cell x l))
-  pub next : (k : ℕ) → i ≤ k → k < length links → Follows links (link_at links k).source (link_at links k).label (k + 1) (at nexts k)
+  pub first : (x l : ℕ) → x < n → l < 64 → Follows links x l i (link_in firsts (cell x l))
+  pub next : (k : ℕ) → i ≤ k → k < length links → Follows links (link_at links k).source (link_at links k).label (k + 1) (link_in nexts k)
 
 -- an index of all links of a table
 abbrev pub IndexOf : System → Index → Type 0
-IndexOf t i = Indexed (size t) t.links (vec_items i.firsts) (vec_items i.nexts) 0
+IndexOf t i = Indexed (size t) t.links i.firsts i.nexts 0

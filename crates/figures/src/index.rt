@@ -1,14 +1,14 @@
 //! The links of each source and label.
-ghost use Rattle.std.specs.Prelude.{◌≤◌, vec_capacity};
+use room::Room;
+use table::parts::PerLink;
 
-pub mod building;
+pub mod calls;
 
-/// For each source and label its first link, and for each link the next of its source and label; the number of links stands
-/// for none.
+/// For each source and label its first link, and for each link the next of its source and label.
+// Lists threaded through two arrays: a `Vec` for each source and label would want memory whenever a table is settled, and links sorted by
+// source and label would take a counting sort, which is longer than this walk.
 #[derive(Drop)]
 pub struct Index {
-    firsts: Vec<u16>,
-    nexts: Vec<u16>,
-    ghost room_firsts: { 65536 ≤ vec_capacity firsts },
-    ghost room_nexts: { 4096 ≤ vec_capacity nexts },
+    firsts: Room<Option<u16>, 65536>,
+    nexts: PerLink<Option<u16>>,
 }

@@ -11,7 +11,8 @@ use Rattle.theory.specs.Rounds.{number_in}
 use Rattle.theory.proofs.Kernels.{unique, same_number, same_count}
 use Rattle.settle.specs.Grouped.{Grouped}
 use Rattle.settle.proofs.Groupings.{number_in_lem}
-use Rattle.folder.specs.View.{Settlement, SoundAt}
+use Rattle.settle.specs.declared.refinement.Refinement.{Refinement}
+use Rattle.folder.specs.View.{Settlement, Sound, settlement_of}
 use Rattle.folder.specs.Calls.{when_settled, groups_of, CountMeans, GroupMeans}
 
 module _ (fig : Figure) (t : System) (groups : List ℕ) (count : ℕ) (nodes : List Node) (h : Grouped fig t groups count nodes) (g : ℕ → ℕ) (s : Settled fig t g) where
@@ -23,19 +24,24 @@ module _ (fig : Figure) (t : System) (groups : List ℕ) (count : ℕ) (nodes : 
   count_is : count ≡ group_count g (size t)
   count_is = h.counted ∙ same_count (number_in groups) g (size t) (unique fig t (number_in groups) g h.settled s)
 
-pub count_means : (fig : Figure) (t : System) (o : Option Settlement) (r : Option ℕ) → r ≡ groups_of o → SoundAt fig t o → CountMeans fig t r
-count_means fig t (Some s) r f h n e g q = let c : s.count ≡ n = cc in sym c ∙ count_is fig t s.groups s.count s.nodes h g q
+pub count_means : (fig : Figure) (t : System) (o : Option Settlement) (r : Option ℕ) → r ≡ groups_of o → Sound fig t o → CountMeans fig t r
+count_means fig t (Some s) r f h n e g q = let c : s.count ≡ n = cc in sym c ∙ count_is fig t s.groups s.count s.nodes h.0 g q
 count_means fig t None r f h n e g q = absurd (both_ways true (cc) refl)
 
 pub group_means : (fig : Figure) (t : System) (x : ℕ) (o : Option Settlement) (r : Result ℕ Refusal) →
-    r ≡ when_settled o (λ s. cond (leb (size t) x) (Err NoSuchNumber) (Ok (number_in s.groups x))) → SoundAt fig t o → GroupMeans fig t x r
+    r ≡ when_settled o (λ s. cond (leb (size t) x) (Err NoSuchNumber) (Ok (number_in s.groups x))) → Sound fig t o → GroupMeans fig t x r
 group_means fig t x (Some s) r f h n e g q = elim (cases_lt x (size t)) [
   | inl l ↦
       let here : cond (leb (size t) x) (Err NoSuchNumber) (Ok (number_in s.groups x)) ≡ Ok (number_in s.groups x) = cond-false (leb (size t) x) (Err NoSuchNumber) (Ok (number_in s.groups x)) (lt-leb _ _ l) in
       let c : number_in s.groups x ≡ n = cc in
-      sym c ∙ number_means fig t s.groups s.count s.nodes h g q x l
+      sym c ∙ number_means fig t s.groups s.count s.nodes h.0 g q x l
   | inr l ↦
       let gone : cond (leb (size t) x) (Err NoSuchNumber) (Ok (number_in s.groups x)) ≡ Err NoSuchNumber = cond-true (leb (size t) x) (Err NoSuchNumber) (Ok (number_in s.groups x)) (le-leb _ _ l) in
       absurd (both_ways true (cc) refl)
 ]
 group_means fig t x None r f h n e g q = absurd (both_ways true (cc) refl)
+
+-- the number of groups that a table keeps is the one that it shows
+pub groups_back : (o : Option ℕ) (f : Refinement) → o ≡ groups_of (settlement_of o f)
+groups_back (Some n) f = refl
+groups_back None f = refl

@@ -1,6 +1,5 @@
 //! Tables that are built call by call, and their groups.
 use folder::tables::Table;
-use std::alloc::Global;
 use std::test::Fail;
 use table::parts::{Link, State};
 use weigher::Weigher;
@@ -32,22 +31,17 @@ pub fn presses() -> [Link; 4] {
     [plain(0, 3), plain(1, 3), plain(2, 2), plain(3, 3)]
 }
 
-// An open table of these states and links.
-pub fn filled<W: Weigher>(
-    heap: Global,
-    pile: W,
+// These states and links, into an open table.
+pub fn fill<W: Weigher>(
+    table: &mut Table<W>,
     states: &[State],
     links: &[Link],
-) -> Result<Table<W>, Fail>
-where
-    W: Drop,
-{
-    let mut table = Table::start(heap, pile)?;
+) -> Result<(), Fail> {
     for state in states {
         table.add(state.sort, state.output)?;
     }
     for link in links {
         table.link(link.source, link.label, link.weight, link.target)?;
     }
-    Ok(table)
+    Ok(())
 }

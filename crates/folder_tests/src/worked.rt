@@ -1,5 +1,6 @@
 //! Small tables with the groups that they settle to.
-use crate::filling::{DARK, LIT, PRESSED, filled, plain, presses, weighted};
+use crate::filling::{DARK, LIT, PRESSED, fill, plain, presses, weighted};
+use folder::tables::Table;
 use std::alloc::Global;
 use std::process::Abort;
 use std::test::Fail;
@@ -10,7 +11,20 @@ use weigher::plain::{Blind, Greatest, Reach, Sum};
 
 const THREE: [State; 3] = [DARK, DARK, LIT];
 
-// That a table settles to these groups, one for each state.
+// That an open table settles to these groups, one for each state.
+fn check<W: Weigher>(rt: &impl Abort, table: &mut Table<W>, groups: &[u16]) -> Result<(), Fail> {
+    let count = table.settle()?;
+    let mut expected = 0;
+    for (state, group) in (0..u16::MAX).zip(groups) {
+        assert_eq!(rt; table.group(state)?, *group);
+        expected = group.saturating_add(1).max(expected);
+    }
+    assert_eq!(rt; count, expected);
+    assert_eq!(rt; table.count().0, groups.len());
+    Ok(())
+}
+
+// The same for a table of these states and links.
 fn settles_to<W: Weigher>(
     rt: &impl Abort,
     heap: Global,
@@ -22,18 +36,9 @@ fn settles_to<W: Weigher>(
 where
     W: Drop,
 {
-    let mut table = filled(heap, pile, states, links)?;
-    let count = table.settle()?;
-    let mut expected = 0;
-    let mut state = 0u16;
-    for group in groups {
-        assert_eq!(rt; table.group(state)?, *group);
-        expected = group.saturating_add(1).max(expected);
-        state = state.saturating_add(1);
-    }
-    assert_eq!(rt; count, expected);
-    assert_eq!(rt; table.count().0, groups.len());
-    Ok(())
+    let mut table = Table::start(heap, pile)?;
+    fill(&mut table, states, links)?;
+    check(rt, &mut table, groups)
 }
 
 #[test]

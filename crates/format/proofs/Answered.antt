@@ -1,5 +1,5 @@
 -- The answer to a file, in the words of the format.
-use Rattle.std.proofs.Common.{◌≡◌, ℕ, ◌<◌, ◌↔◌, List, get_or, Ok, Err, Result, sym, refl, ap, ◌∙◌, arith, w8, Fits}
+use Rattle.std.proofs.Common.{◌≡◌, ℕ, ◌<◌, ◌↔◌, List, get_or, Ok, Err, Result, sym, refl, ap, ◌∙◌, w8, Fits}
 use Rattle.std.specs.List.{AllByRecursion}
 use Rattle.std.proofs.ByRecursion.{All-from_get_or}
 use Rattle.table.specs.System.{System}
@@ -21,7 +21,4 @@ module _ (bytes : List ℕ) (fits : (i : ℕ) → Fits w8 (get_or bytes i 0)) wh
         λ h. (accepts bytes all t).0 (e ∙ ap Ok (sym (b ∙ ap system_in e) ∙ h.1)),
         λ f. let q : u ≡ t = cc (e, (accepts bytes all t).1 f) in (a ∙ ap answer_of e, b ∙ ap system_in e ∙ q),
       )
-      go (Err x) e = (
-        λ h. let z : ◌≡◌ {A = ℕ} 0 1 = cc (h.0, a, ap answer_of e) in absurd (omega arith),
-        λ f. let z : ◌≡◌ {A = ℕ} 0 1 = cc (e, (accepts bytes all t).1 f) in absurd (omega arith),
-      )
+      go (Err x) e = (λ h. absurd (cc (h.0, a, ap answer_of e)), λ f. absurd (cc (e, (accepts bytes all t).1 f)))

@@ -1,13 +1,11 @@
 -- Numbers and their bytes, and the fields of a file.
-use Rattle.std.proofs.Common.{◌≡◌, ℕ, zero, suc, ◌+◌, ◌*◌, ◌/◌, ◌%◌, ◌^◌, ◌<◌, Bool, true, false, cond, leb, List, [], ◌∷◌, ◌++◌, length, take, drop, Ok, Err, Result, sym, refl, ap, ◌∙◌, ap₂, pow-suc, arith}
+use Rattle.std.proofs.Common.{◌≡◌, ℕ, zero, suc, ◌+◌, ◌*◌, ◌/◌, ◌%◌, ◌^◌, ◌<◌, ◌≤◌, Bool, true, false, cond, List, [], ◌∷◌, ◌++◌, length, take, drop, Ok, Err, Result, sym, refl, ap, ◌∙◌, ap₂, pow-suc, arith}
 use Rattle.std.specs.List.{AllByRecursion}
 use Rattle.std.proofs.lemmas.List.{append_assoc, drop_at, drop-drop, length-append, length-drop, length-take-le, take-append-drop, take_at}
+use Rattle.std.proofs.lemmas.Grind.{common_steps}
 use Rattle.std.proofs.ByRecursion.{All-take, All-drop}
-use Rattle.std.proofs.lemmas.Bool.{leb-true}
-use Rattle.fault.specs.declared.ByteFault.{ByteFault}
-use Rattle.format.specs.Walk.{numeral, and_then, allowed, field_at}
+use Rattle.format.specs.Walk.{numeral, and_then, field_at}
 use Rattle.format.specs.Encode.{bytes_of}
-use Rattle.format.proofs.Fields.{whole}
 
 abbrev pub Byte : ℕ → Type 0
 Byte b = b < 256
@@ -37,30 +35,15 @@ bytes_of_numeral (b ∷ bs) h =
     let high : (b + 256 * numeral bs) / 256 ≡ numeral bs = omega arith in
     ap₂ ◌∷◌ low (ap (bytes_of (length bs)) high ∙ bytes_of_numeral bs h.1)
 
--- a test that did not refuse
-kept : {X E : Type 0} (b : Bool) (v x : X) (f : E) → cond b (Ok v) (Err f) ≡ Ok x → (b ≡ true) × (v ≡ x)
-kept true v x f h = (refl, cc)
-kept false v x f h = let z : ◌≡◌ {A = ℕ} 0 1 = cc in absurd (omega arith)
-
+-- a test that did not refuse, and what was read after it
 pub passed : {X E G : Type 0} (b : Bool) (f : E) (r : Result X E) (x : X) → cond b (Err f) r ≡ Ok x → (b ≡ false → r ≡ Ok x → G) → G
-passed true f r x h k = let z : ◌≡◌ {A = ℕ} 0 1 = cc in absurd (omega arith)
+passed true f r x h k = absurd (cc)
 passed false f r x h k = k refl h
 
 -- a step that was read, and what was read after it
 pub first_read : {X Y E F G : Type 0} (up : E → F) (r : Result X E) (next : X → Result Y F) (y : Y) → and_then up r next ≡ Ok y → ((x : X) → r ≡ Ok x → next x ≡ Ok y → G) → G
 first_read up (Ok x) next y h k = k x refl h
-first_read up (Err e) next y h k = let z : ◌≡◌ {A = ℕ} 0 1 = cc in absurd (omega arith)
-
--- a field whose value is allowed
-pub allowed_ok : {F : Type 0} (up : ByteFault → F) (wrong : ℕ → Bool) (f : F) (r : Result ℕ ByteFault) (v : ℕ) → r ≡ Ok v → wrong v ≡ false → allowed up wrong f r ≡ Ok v
-allowed_ok up wrong f r v e w = rw (e, w)
-
-pub allowed_is : {F : Type 0} (up : ByteFault → F) (wrong : ℕ → Bool) (f : F) (r : Result ℕ ByteFault) (v : ℕ) → allowed up wrong f r ≡ Ok v → (r ≡ Ok v) × (wrong v ≡ false)
-allowed_is up wrong f r v h =
-    first_read up r _ v h λ x e h.
-    passed (wrong x) f (Ok x) v h λ w h.
-    let q : x ≡ v = cc in
-    (e ∙ ap Ok q, sym (ap wrong q) ∙ w)
+first_read up (Err e) next y h k = absurd (cc)
 
 module _ (bytes : List ℕ) where
   -- one part of the file after another
@@ -76,9 +59,8 @@ module _ (bytes : List ℕ) where
   -- a field holds the bytes of what is read, and the bytes of a number are read as it
   pub field_sound : AllByRecursion Byte bytes → (w at to item v : ℕ) → at + w ≡ to → field_at w bytes at item ≡ Ok v → (v < 256 ^ w) × (drop at bytes ≡ bytes_of w v ++ drop to bytes)
   field_sound all w at to item v t h =
-      let k = kept (leb (at + w) (length bytes)) (numeral (take w (drop at bytes))) v _ h in
-      let within = leb-true (at + w) (length bytes) k.0 in
-      let n : length (take w (drop at bytes)) ≡ w = length-take-le w (drop at bytes) (omega (arith, length-drop at bytes)) in
+      let k : (at + w ≤ length bytes) × (numeral (take w (drop at bytes)) ≡ v) = grind (arith, common_steps) in
+      let n : length (take w (drop at bytes)) ≡ w = length-take-le w (drop at bytes) (omega (arith, k.0, length-drop at bytes)) in
       let each = All-take Byte w (drop at bytes) (All-drop Byte at bytes all) in
       let low = numeral_lt (take w (drop at bytes)) each in
       let size : 256 ^ length (take w (drop at bytes)) ≡ 256 ^ w = ap (λ m. 256 ^ m) n in
@@ -89,5 +71,5 @@ module _ (bytes : List ℕ) where
   field_complete w at item v rest some small e =
       let n = length_bytes_of w v in
       let l : length (drop at bytes) ≡ length (bytes_of w v) + length rest = ap length e ∙ length-append (bytes_of w v) rest in
-      whole w bytes at item (omega (arith, length-drop at bytes))
-      ∙ ap Ok (ap (λ xs. numeral (take w xs)) e ∙ ap numeral (take_at (bytes_of w v) rest w n) ∙ numeral_bytes_of w v small)
+      let whole : field_at w bytes at item ≡ Ok (numeral (take w (drop at bytes))) = let h : at + w ≤ length bytes = omega (arith, length-drop at bytes) in grind (arith, common_steps) in
+      whole ∙ ap Ok (ap (λ xs. numeral (take w xs)) e ∙ ap numeral (take_at (bytes_of w v) rest w n) ∙ numeral_bytes_of w v small)

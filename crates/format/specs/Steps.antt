@@ -1,15 +1,14 @@
 -- What the inner functions of reading answer.
-use Rattle.std.specs.Prelude.{◌≡◌, ℕ, ◌+◌, cond, List, length, Ok, Err, Result, nat_le}
-use Rattle.fault.specs.declared.ByteFault.{ByteFault}
+use Rattle.std.specs.Prelude.{◌≡◌, ℕ, ◌+◌, List, Ok, Err, Result, OnOk}
+use Rattle.format.specs.declared.cursor.Cursor.{Cursor}
 
--- where a field of so many bytes begins, if it is whole
-abbrev pub start_of : ℕ → List ℕ → ℕ → ℕ → Result ℕ ByteFault
-start_of width bytes at item = cond (nat_le (at + width) (length bytes)) (Ok at) (Err (record { place = record { offset = at; item = item } }))
+-- what a definition reads at a cursor
+abbrev pub here : {X : Type 0} → (List ℕ → ℕ → ℕ → X) → Cursor → X
+here read c = read c.bytes.now c.offset c.item
 
--- a cursor goes past a field that is whole
-abbrev pub advanced : {X Y : Type 0} → Result X Y → ℕ → ℕ → ℕ
-advanced (Ok x) at width = at + width
-advanced (Err f) at width = at
+-- the cursor afterwards: past so many bytes if they were read; the bytes and the item stay
+abbrev pub Onward : {X E : Type 0} → Result X E → ℕ → Cursor → Cursor → Type 0
+Onward r width old new = (new.bytes.now ≡ old.bytes.now) × (new.item ≡ old.item) × OnOk r (new.offset ≡ old.offset + width)
 
 -- an answer without a value, as a definition says it: P holds of what was read, or the fault is the same
 abbrev pub Follows : {X E : Type 0} → Result X E → Result (Unit {0}) E → (X → Type 0) → Type 0

@@ -6,10 +6,12 @@ use Rattle.table.specs.System.{System}
 use Rattle.table.specs.declared.parts.State.{State}
 use Rattle.table.specs.declared.parts.Link.{Link}
 use Rattle.fault.specs.declared.ByteFault.{ByteFault}
-use Rattle.fault.specs.declared.StatesFault.{StatesFault}
-use Rattle.fault.specs.declared.StatesFault.TheVariants.{Cut as StatesCut, Count as StatesCount, Sort}
-use Rattle.fault.specs.declared.LinksFault.{LinksFault}
-use Rattle.fault.specs.declared.LinksFault.TheVariants.{Cut as LinksCut, Count as LinksCount, Source, Label, Target}
+use Rattle.fault.specs.declared.SectionFault.{SectionFault}
+use Rattle.fault.specs.declared.SectionFault.TheVariants.{Cut, Value}
+use Rattle.fault.specs.declared.StatesField.{StatesField}
+use Rattle.fault.specs.declared.StatesField.TheVariants.{Count as StatesCount, Sort}
+use Rattle.fault.specs.declared.LinksField.{LinksField}
+use Rattle.fault.specs.declared.LinksField.TheVariants.{Count as LinksCount, Source, Label, Target}
 use Rattle.fault.specs.declared.TableFault.{TableFault}
 use Rattle.fault.specs.declared.TableFault.TheVariants.{States, Links, After}
 
@@ -23,67 +25,67 @@ abbrev pub and_then : {X Y E F : Type 0} → (E → F) → Result X E → (X →
 and_then up (Ok x) next = next x
 and_then up (Err e) next = Err (up e)
 
--- the field of some bytes at an offset
+-- the bytes of a field at an offset, if it is whole
+abbrev pub bytes_at : ℕ → List ℕ → ℕ → ℕ → Result (List ℕ) ByteFault
+bytes_at width bytes at item =
+    cond (nat_le (at + width) (length bytes)) (Ok (take width (drop at bytes))) (Err (record { place = record { offset = at; item = item } }))
+
+-- the number that a field holds
 abbrev pub field_at : ℕ → List ℕ → ℕ → ℕ → Result ℕ ByteFault
-field_at width bytes at item =
-    cond (nat_le (at + width) (length bytes)) (Ok (numeral (take width (drop at bytes)))) (Err (record { place = record { offset = at; item = item } }))
+field_at width bytes at item = and_then (λ f. f) (bytes_at width bytes at item) (λ bs. Ok (numeral bs))
 
--- a field whose value must not be wrong
-abbrev pub allowed : {F : Type 0} → (ByteFault → F) → (ℕ → Bool) → F → Result ℕ ByteFault → Result ℕ F
-allowed up wrong fault r = and_then up r (λ v. cond (wrong v) (Err fault) (Ok v))
-
--- four bytes in two's complement
-abbrev pub signed_of : Result ℕ ByteFault → Result ℤ ByteFault
-signed_of r = and_then (λ f. f) r (λ v. Ok (to_z w32 v))
+-- the same for a field whose number must not be wrong
+abbrev pub checked_at : {F : Type 0} → F → (ℕ → Bool) → ℕ → List ℕ → ℕ → ℕ → Result ℕ (SectionFault F)
+checked_at field wrong width bytes at item =
+    and_then Cut (field_at width bytes at item) (λ v. cond (wrong v) (Err (Value field (record { offset = at; item = item }))) (Ok v))
 
 -- a sort is at most 3
-abbrev pub sort_at : List ℕ → ℕ → ℕ → Result ℕ StatesFault
-sort_at bytes at item = allowed StatesCut (ltb 3) (Sort (record { offset = at; item = item })) (field_at 1 bytes at item)
+abbrev pub sort_at : List ℕ → ℕ → ℕ → Result ℕ (SectionFault StatesField)
+sort_at bytes at item = checked_at Sort (ltb 3) 1 bytes at item
 
 -- a state: sort and output
-abbrev pub state_fields : List ℕ → ℕ → ℕ → Result State StatesFault
+abbrev pub state_fields : List ℕ → ℕ → ℕ → Result State (SectionFault StatesField)
 state_fields bytes at item =
     and_then (λ f. f) (sort_at bytes at item) (λ sort.
-    and_then StatesCut (field_at 2 bytes (at + 1) item) (λ output.
+    and_then Cut (field_at 2 bytes (at + 1) item) (λ output.
     Ok (record { sort = sort; output = output })))
 
 -- so many states more, from an offset and an item on, behind those that were read
-abbrev pub state_items : List ℕ → ℕ → ℕ → List State → ℕ → Result (List State) StatesFault
+abbrev pub state_items : List ℕ → ℕ → ℕ → List State → ℕ → Result (List State) (SectionFault StatesField)
 state_items bytes at item states zero = Ok states
 state_items bytes at item states (suc left) = and_then (λ f. f) (state_fields bytes at item) (λ s. state_items bytes (at + 3) (item + 1) (states ++ (s ∷ [])) left)
 
 -- at most 1,024 states, after their count
-abbrev pub states_section : List ℕ → Result (List State) StatesFault
-states_section bytes =
-    and_then (λ f. f) (allowed StatesCut (ltb 1024) (StatesCount (record { offset = 0; item = 0 })) (field_at 2 bytes 0 0)) (state_items bytes 2 1 [])
+abbrev pub states_section : List ℕ → Result (List State) (SectionFault StatesField)
+states_section bytes = and_then (λ f. f) (checked_at StatesCount (ltb 1024) 2 bytes 0 0) (state_items bytes 2 1 [])
 
 -- a source and a target are among n states, and a label is at most 63
-abbrev pub source_at : ℕ → List ℕ → ℕ → ℕ → Result ℕ LinksFault
-source_at n bytes at item = allowed LinksCut (leb n) (Source (record { offset = at; item = item })) (field_at 2 bytes at item)
+abbrev pub end_at : LinksField → ℕ → List ℕ → ℕ → ℕ → Result ℕ (SectionFault LinksField)
+end_at field n bytes at item = checked_at field (leb n) 2 bytes at item
 
-abbrev pub label_at : List ℕ → ℕ → ℕ → Result ℕ LinksFault
-label_at bytes at item = allowed LinksCut (ltb 63) (Label (record { offset = at; item = item })) (field_at 1 bytes at item)
+abbrev pub label_at : List ℕ → ℕ → ℕ → Result ℕ (SectionFault LinksField)
+label_at bytes at item = checked_at Label (ltb 63) 1 bytes at item
 
-abbrev pub target_at : ℕ → List ℕ → ℕ → ℕ → Result ℕ LinksFault
-target_at n bytes at item = allowed LinksCut (leb n) (Target (record { offset = at; item = item })) (field_at 2 bytes at item)
+-- a weight is four bytes in two's complement
+abbrev pub weight_at : List ℕ → ℕ → ℕ → Result ℤ ByteFault
+weight_at bytes at item = and_then (λ f. f) (field_at 4 bytes at item) (λ v. Ok (to_z w32 v))
 
 -- a link: source, label, weight and target
-abbrev pub link_fields : ℕ → List ℕ → ℕ → ℕ → Result Link LinksFault
+abbrev pub link_fields : ℕ → List ℕ → ℕ → ℕ → Result Link (SectionFault LinksField)
 link_fields n bytes at item =
-    and_then (λ f. f) (source_at n bytes at item) (λ source.
+    and_then (λ f. f) (end_at Source n bytes at item) (λ source.
     and_then (λ f. f) (label_at bytes (at + 2) item) (λ label.
-    and_then LinksCut (signed_of (field_at 4 bytes (at + 3) item)) (λ weight.
-    and_then (λ f. f) (target_at n bytes (at + 7) item) (λ target.
+    and_then Cut (weight_at bytes (at + 3) item) (λ weight.
+    and_then (λ f. f) (end_at Target n bytes (at + 7) item) (λ target.
     Ok (record { source = source; label = label; weight = weight; target = target })))))
 
-abbrev pub link_items : ℕ → List ℕ → ℕ → ℕ → List Link → ℕ → Result (List Link) LinksFault
+abbrev pub link_items : ℕ → List ℕ → ℕ → ℕ → List Link → ℕ → Result (List Link) (SectionFault LinksField)
 link_items n bytes at item links zero = Ok links
 link_items n bytes at item links (suc left) = and_then (λ f. f) (link_fields n bytes at item) (λ k. link_items n bytes (at + 9) (item + 1) (links ++ (k ∷ [])) left)
 
 -- at most 4,096 links, after their count
-abbrev pub links_section : ℕ → List ℕ → ℕ → Result (List Link) LinksFault
-links_section n bytes at =
-    and_then (λ f. f) (allowed LinksCut (ltb 4096) (LinksCount (record { offset = at; item = 0 })) (field_at 2 bytes at 0)) (link_items n bytes (at + 2) 1 [])
+abbrev pub links_section : ℕ → List ℕ → ℕ → Result (List Link) (SectionFault LinksField)
+links_section n bytes at = and_then (λ f. f) (checked_at LinksCount (ltb 4096) 2 bytes at 0) (link_items n bytes (at + 2) 1 [])
 
 -- where the states end, and the links
 abbrev pub states_end : ℕ → ℕ

@@ -1,7 +1,6 @@
-//! The layer of bytes: fields of one, two and four bytes, the lowest byte first.
-ghost use Rattle.std.specs.Prelude.{◌≡◌, ◌+◌, ◌<◌};
-ghost use Rattle.format.specs.Walk.{field_at, signed_of};
-ghost use Rattle.format.specs.Steps.{start_of, advanced};
+//! The layer of bytes: fields of so many bytes, one after the other.
+ghost use Rattle.std.specs.Prelude.{◌≡◌, ◌+◌, ◌<◌, ◌≤◌, length, OnErr};
+ghost use Rattle.format.specs.Walk.{bytes_at};
 
 use fault::{ByteFault, Place};
 
@@ -11,9 +10,13 @@ pub struct Cursor<'a> {
     bytes: &'a [u8],
     offset: usize,
     item: u16,
+    ghost within: { offset ≤ length bytes.now },
 }
 
 impl<'a> Cursor<'a> {
+    ghost use Rattle.format.specs.Steps.{here, Onward};
+
+    /// The beginning of a file.
     pub fn new(bytes: &'a [u8]) -> Cursor<'a>
         ensures bytes { result.bytes.now ≡ bytes.now }
         ensures start { (result.offset ≡ 0) × (result.item ≡ 0) }
@@ -52,52 +55,17 @@ impl<'a> Cursor<'a> {
         self.item = 0;
     }
 
-    // Where a field of so many bytes begins; the cursor goes past it.
-    fn field(&mut self, width: usize) -> Result<usize, ByteFault>
-        ensures start { result ≡ start_of width self.old.bytes.now self.old.offset self.old.item }
-        ensures offset { self.new.offset ≡ advanced result self.old.offset width }
-        ensures same { (self.new.bytes.now ≡ self.old.bytes.now) × (self.new.item ≡ self.old.item) }
+    /// The bytes of the next field, if it is whole; the cursor goes past it.
+    pub fn take<const N: usize>(&mut self) -> Result<[u8; N], ByteFault>
+        ensures value { result ≡ here (bytes_at N) self.old }
+        ensures cursor { Onward result N self.old self.new }
+        ensures refused { OnErr result (self.new.offset ≡ self.old.offset) }
     {
-        let start = self.offset;
-        if start > self.bytes.len() || self.bytes.len() - start < width {
-            return Err(ByteFault {
-                place: self.place(),
-            });
-        }
-        self.offset = start + width;
-        Ok(start)
-    }
-
-    pub fn take_u8(&mut self) -> Result<u8, ByteFault>
-        ensures value { result ≡ field_at 1 self.old.bytes.now self.old.offset self.old.item }
-        ensures offset { self.new.offset ≡ advanced result self.old.offset 1 }
-        ensures same { (self.new.bytes.now ≡ self.old.bytes.now) × (self.new.item ≡ self.old.item) }
-    {
-        let at = self.field(1)?;
-        Ok(self.bytes[at])
-    }
-
-    pub fn take_u16(&mut self) -> Result<u16, ByteFault>
-        ensures value { result ≡ field_at 2 self.old.bytes.now self.old.offset self.old.item }
-        ensures offset { self.new.offset ≡ advanced result self.old.offset 2 }
-        ensures same { (self.new.bytes.now ≡ self.old.bytes.now) × (self.new.item ≡ self.old.item) }
-    {
-        let at = self.field(2)?;
-        Ok(u16::from_le_bytes([self.bytes[at], self.bytes[at + 1]]))
-    }
-
-    pub fn take_i32(&mut self) -> Result<i32, ByteFault>
-        ensures value { result ≡ signed_of (field_at 4 self.old.bytes.now self.old.offset self.old.item) }
-        ensures offset { self.new.offset ≡ advanced result self.old.offset 4 }
-        ensures same { (self.new.bytes.now ≡ self.old.bytes.now) × (self.new.item ≡ self.old.item) }
-    {
-        let at = self.field(4)?;
-        let bytes = [
-            self.bytes[at],
-            self.bytes[at + 1],
-            self.bytes[at + 2],
-            self.bytes[at + 3],
-        ];
-        Ok(u32::from_le_bytes(bytes).cast_signed())
+        let place = self.place();
+        let bytes = self.bytes[self.offset..]
+            .first_chunk()
+            .ok_or(ByteFault { place })?;
+        self.offset += N;
+        Ok(*bytes)
     }
 }

@@ -34,6 +34,16 @@ mod tests {
         (26, 2, 2, 2),
     ];
 
+    // A link, field by field.
+    fn link(source: u16, label: u8, weight: i32, target: u16) -> Link {
+        Link {
+            source,
+            label,
+            weight,
+            target,
+        }
+    }
+
     // The fault of a file, or none.
     fn fault(heap: Global, bytes: &[u8]) -> Result<Option<TableFault>, AllocError> {
         let mut chart = Chart::reserve(heap)?;
@@ -78,6 +88,18 @@ mod tests {
         Ok(bytes)
     }
 
+    // That the same file is refused with this line.
+    fn refused_with(
+        rt: &impl Abort,
+        heap: Global,
+        at: usize,
+        byte: u8,
+        line: &str,
+    ) -> Result<(), Fail> {
+        let file = pair_with(heap, at, byte)?;
+        refused(rt, heap, file.as_slice(), line)
+    }
+
     #[test]
     fn reads_states_and_links(rt: HostRuntime) -> Result<(), Fail> {
         let mut chart = Chart::reserve(rt.alloc())?;
@@ -86,20 +108,8 @@ mod tests {
         assert!(rt; chart.states().len() == 2 && chart.links().len() == 2);
         assert_eq!(rt; chart.states()[0], plain);
         assert_eq!(rt; chart.states()[1], plain);
-        let there = Link {
-            source: 0,
-            label: 0,
-            weight: 1,
-            target: 1,
-        };
-        let back = Link {
-            source: 1,
-            label: 0,
-            weight: 1,
-            target: 0,
-        };
-        assert_eq!(rt; chart.links()[0], there);
-        assert_eq!(rt; chart.links()[1], back);
+        assert_eq!(rt; chart.links()[0], link(0, 0, 1, 1));
+        assert_eq!(rt; chart.links()[1], link(1, 0, 1, 0));
         Ok(())
     }
 
@@ -115,14 +125,8 @@ mod tests {
             sort: 3,
             output: 65534,
         };
-        let link = Link {
-            source: 0,
-            label: 63,
-            weight: -2,
-            target: 0,
-        };
         assert_eq!(rt; chart.states()[0], state);
-        assert_eq!(rt; chart.links()[0], link);
+        assert_eq!(rt; chart.links()[0], link(0, 63, -2, 0));
         Ok(())
     }
 
@@ -141,19 +145,11 @@ mod tests {
         refused(&rt, heap, &[], "refused 7 byte 0 section 1 item 0")?;
         refused(&rt, heap, &[0, 0], "refused 7 byte 2 section 2 item 0")?;
         refused(&rt, heap, &[0, 0, 0], "refused 7 byte 2 section 2 item 0")?;
-        refused(
-            &rt,
-            heap,
-            &[0, 0, 0, 0, 0],
-            "refused 8 byte 4 section 3 item 0",
-        )?;
-        refused(
-            &rt,
-            heap,
-            &[1, 0, 4, 0, 0, 0, 0],
-            "refused 4 byte 2 section 1 item 1",
-        )?;
-        refused(&rt, heap, &[1, 0, 4], "refused 4 byte 2 section 1 item 1")?;
+        let line = "refused 8 byte 4 section 3 item 0";
+        refused(&rt, heap, &[0, 0, 0, 0, 0], line)?;
+        let line = "refused 4 byte 2 section 1 item 1";
+        refused(&rt, heap, &[1, 0, 4, 0, 0, 0, 0], line)?;
+        refused(&rt, heap, &[1, 0, 4], line)?;
         refused(&rt, heap, &[1, 0, 3], "refused 7 byte 3 section 1 item 1")
     }
 
@@ -167,7 +163,7 @@ mod tests {
                 if len >= offset && len - offset < width {
                     assert!(rt; found.refusal().number() == 7);
                     assert!(rt; found.place().offset == offset);
-                    assert!(rt; found.section() == section);
+                    assert!(rt; found.section() as u8 == section);
                     assert!(rt; found.place().item == item);
                 }
             }
@@ -178,48 +174,16 @@ mod tests {
     #[test]
     fn refuses_one_past_each_limit(rt: HostRuntime) -> Result<(), Fail> {
         let heap = rt.alloc();
-        let file = pair_with(heap, 5, 4)?;
-        refused(
-            &rt,
-            heap,
-            file.as_slice(),
-            "refused 4 byte 5 section 1 item 2",
-        )?;
-        let file = pair_with(heap, 10, 2)?;
-        refused(
-            &rt,
-            heap,
-            file.as_slice(),
-            "refused 5 byte 10 section 2 item 1",
-        )?;
-        let file = pair_with(heap, 21, 64)?;
-        refused(
-            &rt,
-            heap,
-            file.as_slice(),
-            "refused 6 byte 21 section 2 item 2",
-        )?;
-        let file = pair_with(heap, 26, 2)?;
-        refused(
-            &rt,
-            heap,
-            file.as_slice(),
-            "refused 5 byte 26 section 2 item 2",
-        )?;
+        refused_with(&rt, heap, 5, 4, "refused 4 byte 5 section 1 item 2")?;
+        refused_with(&rt, heap, 10, 2, "refused 5 byte 10 section 2 item 1")?;
+        refused_with(&rt, heap, 21, 64, "refused 6 byte 21 section 2 item 2")?;
+        refused_with(&rt, heap, 26, 2, "refused 5 byte 26 section 2 item 2")?;
         let file = zeros(heap, 1025, 0)?;
-        refused(
-            &rt,
-            heap,
-            file.as_slice(),
-            "refused 3 byte 0 section 1 item 0",
-        )?;
+        let line = "refused 3 byte 0 section 1 item 0";
+        refused(&rt, heap, file.as_slice(), line)?;
         let file = zeros(heap, 1, 4097)?;
-        refused(
-            &rt,
-            heap,
-            file.as_slice(),
-            "refused 3 byte 5 section 2 item 0",
-        )
+        let line = "refused 3 byte 5 section 2 item 0";
+        refused(&rt, heap, file.as_slice(), line)
     }
 
     #[test]

@@ -2,8 +2,9 @@
 #![tactic(auto)]
 
 use std::process::ExitCode;
-use weigher::piles::LOTS_PILE;
+use weigher::piles::{Lots, Pile};
 
+// a program for each pile; what they do is `console::run`
 fn main(rt: HostRuntime) -> anyhow::Result<ExitCode> {
-    console::run(&rt, LOTS_PILE)
+    console::run(&rt, Lots::PILE)
 }

@@ -290,9 +290,3 @@ pub cut_read : (o0 k0 : List ℕ) (ns0 n1 : List Stretch) (figs : List ℤ) (lea
 cut_read o0 k0 ns0 n1 figs leaf t o p k ns e q c =
     subst (λ z. Cutting o0 k0 (mark_at ns0 leaf) figs z.start z.end o p k ns z.end) e
     (subst (λ z. Cutting o0 k0 z figs t.start t.end o p k ns t.end) q c)
-
-pub cut_like : (o k o1 k1 : List ℕ) (n1 : List Stretch) (figs : List ℤ) (s e : ℕ) (o2 p2 k2 o3 p3 k3 : List ℕ) (ns : List Stretch) (m : ℕ) → o1 ≡ o → k1 ≡ k → o3 ≡ o2 → p3 ≡ p2 → k3 ≡ k2 → Cutting o1 k1 n1 figs s e o2 p2 k2 ns m → Cutting o k n1 figs s e o3 p3 k3 ns m
-cut_like o k o1 k1 n1 figs s e o2 p2 k2 o3 p3 k3 ns m a b x y z c = rw (← a, ← b, x, y, z) c
-
-pub whole_like : (o p k o2 p2 k2 : List ℕ) (ns : List Stretch) → o2 ≡ o → p2 ≡ p → k2 ≡ k → Whole o p k ns → Whole o2 p2 k2 ns
-whole_like o p k o2 p2 k2 ns a b c w = rw (a, b, c) w

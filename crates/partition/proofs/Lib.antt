@@ -3,7 +3,7 @@ mod Gathers
 mod Slacks
 mod Cuttings
 mod Divides
-mod Starts
+mod Orders
 mod Rows
 mod Sorts
 pub mod Facts

@@ -1,5 +1,5 @@
 -- The steps of a cut by kind, and what the whole cut gives.
-use Rattle.std.proofs.Common.{◌≡◌, ℕ, suc, ◌+◌, ◌<◌, ◌≤◌, List, [], length, ℤ, pos, vec_items, sym, ap, ◌∙◌, subst, inl, inr, arith}
+use Rattle.std.proofs.Common.{◌≡◌, ℕ, suc, ◌+◌, ◌<◌, ◌≤◌, List, [], length, ℤ, pos, sym, ap, ◌∙◌, subst, inl, inr, arith}
 use Rattle.std.proofs.lemmas.List.{length_push}
 use Rattle.std.proofs.lemmas.Bool.{cases_eq, cases_lt, cases_Bool}
 use Rattle.table.specs.Numbering.{how_many}
@@ -10,6 +10,8 @@ use Rattle.partition.specs.Stretches.{stretch_at, by, Whole}
 use Rattle.partition.specs.Cuts.{Taken, run}
 use Rattle.partition.specs.Kinds.{Sorting}
 use Rattle.partition.specs.View.{Kinds, leads, Begun}
+use Rattle.partition.specs.Cells.{SortsByKind}
+use Rattle.partition.specs.declared.cells.Cells.{Cells}
 use Rattle.partition.specs.declared.row.Row.{Row}
 use Rattle.partition.specs.declared.stretch.Stretch.{Stretch}
 use Rattle.partition.proofs.Perms.{came_from}
@@ -108,9 +110,6 @@ module _ (o0 k0 : List ℕ) (ks : List ℤ) (o p k : List ℕ) (ns : List Stretc
                 ];
           }
 
-pub sort_like : (o0 k0 : List ℕ) (ks : List ℤ) (o p k o2 p2 k2 : List ℕ) (ns ns2 : List Stretch) (m m2 x : ℕ) → o2 ≡ o → p2 ≡ p → k2 ≡ k → ns2 ≡ ns → m2 ≡ m → Sorting o0 k0 ks o p k ns m x → Sorting o0 k0 ks o2 p2 k2 ns2 m2 x
-sort_like o0 k0 ks o p k o2 p2 k2 ns ns2 m m2 x a b c d e s = rw (a, b, c, d, e) s
-
 module _ (o0 k0 : List ℕ) (ks : List ℤ) (o p k : List ℕ) (ns : List Stretch) (s : Sorting o0 k0 ks o p k ns (length ks) (length ks)) where
   union : (b i j : ℕ) → (b < length ns) × (i < length o) × (j < length o) × (by k o i ≡ by k o j) × ((stretch_at ns b).start ≤ i) × (i < (stretch_at ns b).end) → ((stretch_at ns b).start ≤ j) × (j < (stretch_at ns b).end)
   union b i j h =
@@ -138,7 +137,7 @@ module _ (o0 k0 : List ℕ) (ks : List ℤ) (o p k : List ℕ) (ns : List Stretc
         few = omega (arith, c.count, s.size);
       }
 
-pub begun : (o0 k0 : List ℕ) (ks : List ℤ) (r : Row) → Sorting o0 k0 ks (vec_items r.order) (vec_items r.place) (vec_items r.block) (vec_items r.stretches) (length ks) (length ks) → Begun ks r
+pub begun : (o0 k0 : List ℕ) (ks : List ℤ) (r : Row) → Sorting o0 k0 ks r.cells.order.states r.cells.order.places r.cells.block r.cells.stretches (length ks) (length ks) → Begun ks r
 begun o0 k0 ks r s =
     let c = s.cut in
     let all = s.size in
@@ -146,11 +145,14 @@ begun o0 k0 ks r s =
       size = all;
       count = s.count;
       block = λ x z l q.
-          let lx : x < length (vec_items r.place) = omega (arith, c.perm.same) in
+          let lx : x < length r.cells.order.places = omega (arith, c.perm.same) in
           let lp = c.perm.low_place x lx in
-          let d = s.done (at (vec_items r.place) x) (omega arith) in
+          let d = s.done (at r.cells.order.places x) (omega arith) in
           let e : pos d.0 ≡ pos z = sym d.2 ∙ ap (fig ks) (c.perm.fore x lx) ∙ q in
           let n : d.0 ≡ z = cc in
-          sym (at_place _ _ (vec_items r.block) c.perm x lx) ∙ d.3 ∙ ap (how_many (leads ks)) n;
+          sym (at_place _ _ r.cells.block c.perm x lx) ∙ d.3 ∙ ap (how_many (leads ks)) n;
       whole = λ b l. c.born_leaf b (omega arith) l;
     }
+
+pub cells_like : (c0 : Cells) (ks : List ℤ) (c c2 : Cells) (m m2 x : ℕ) → c2 ≡ c → m2 ≡ m → SortsByKind c0 ks c m x → SortsByKind c0 ks c2 m2 x
+cells_like c0 ks c c2 m m2 x e em s = subst (λ z. SortsByKind c0 ks z m2 x) (sym e) (subst (λ z. SortsByKind c0 ks c z x) (sym em) s)

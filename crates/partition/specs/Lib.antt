@@ -4,3 +4,4 @@ pub mod Cuts
 pub mod Starts
 pub mod View
 pub mod Kinds
+pub mod Cells

@@ -1,5 +1,5 @@
 -- What a row shows: which node a state is in.
-use Rattle.std.specs.Prelude.{◌≡◌, ℕ, ◌+◌, ◌<◌, ◌≤◌, Bool, true, false, ◌&&◌, List, length, ℤ, pos, vec_items, ◌≢◌, nat_le, nat_lt}
+use Rattle.std.specs.Prelude.{◌≡◌, ℕ, ◌+◌, ◌<◌, ◌≤◌, Bool, true, false, ◌&&◌, List, length, ℤ, pos, ◌≢◌, nat_le, nat_lt}
 use Rattle.table.specs.Numbering.{how_many}
 use Rattle.theory.specs.Rounds.{same_int}
 use Rattle.partition.specs.Perm.{at, fig}
@@ -9,18 +9,18 @@ use Rattle.partition.specs.declared.stretch.Stretch.{Stretch}
 
 -- how many states
 abbrev pub size_of : Row → ℕ
-size_of r = length (vec_items r.order)
+size_of r = length r.cells.order.states
 
 -- how many nodes
 abbrev pub count_of : Row → ℕ
-count_of r = length (vec_items r.stretches)
+count_of r = length r.cells.stretches
 
 -- the node, not split, that a state is in
 abbrev pub block_of : Row → ℕ → ℕ
-block_of r x = at (vec_items r.block) x
+block_of r x = at r.cells.block x
 
 abbrev pub is_split : Row → ℕ → Bool
-is_split r b = (stretch_at (vec_items r.stretches) b).split
+is_split r b = (stretch_at r.cells.stretches b).split
 
 -- whether a place is in a stretch
 abbrev pub holds_place : Stretch → ℕ → Bool
@@ -28,7 +28,7 @@ holds_place t i = nat_le t.start i && nat_lt i t.end
 
 -- whether a node holds a state
 abbrev pub in_node : Row → ℕ → ℕ → Bool
-in_node r b x = holds_place (stretch_at (vec_items r.stretches) b) (at (vec_items r.place) x)
+in_node r b x = holds_place (stretch_at r.cells.stretches b) (at r.cells.order.places x)
 
 -- each state has the smallest state of its kind
 abbrev pub Kinds : List ℤ → Type 0
@@ -65,8 +65,8 @@ pub record Divided (r r2 : Row) (figs : List ℤ) (leaf : ℕ) : Type 0 where
 
 -- all figures of a leaf are equal, and the row is as it was
 pub record Unchanged (r r2 : Row) (figs : List ℤ) (leaf : ℕ) : Type 0 where
-  pub order : vec_items r2.order ≡ vec_items r.order
-  pub place : vec_items r2.place ≡ vec_items r.place
-  pub block : vec_items r2.block ≡ vec_items r.block
-  pub stretches : vec_items r2.stretches ≡ vec_items r.stretches
+  pub order : r2.cells.order.states ≡ r.cells.order.states
+  pub place : r2.cells.order.places ≡ r.cells.order.places
+  pub block : r2.cells.block ≡ r.cells.block
+  pub stretches : r2.cells.stretches ≡ r.cells.stretches
   pub alike : (x y : ℕ) → x < size_of r → y < size_of r → block_of r x ≡ leaf → block_of r y ≡ leaf → fig figs x ≡ fig figs y

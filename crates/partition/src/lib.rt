@@ -1,6 +1,7 @@
 //! A row of states, cut into stretches.
 #![tactic(auto)]
 
-mod cuts;
+mod cells;
+mod order;
 pub mod row;
 pub mod stretch;

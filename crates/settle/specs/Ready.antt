@@ -1,5 +1,5 @@
 -- What a refinement holds while a table is being settled.
-use Rattle.std.specs.Prelude.{◌≤◌, vec_items, vec_len}
+use Rattle.std.specs.Prelude.{◌≤◌, length}
 use Rattle.weigher.specs.Figure.{Figure}
 use Rattle.table.specs.System.{System}
 use Rattle.partition.specs.View.{size_of}
@@ -9,6 +9,6 @@ use Rattle.settle.specs.declared.refinement.Refinement.{Refinement}
 
 -- a row and a record with the same nodes, an index of the links, and a place for each state's figure
 pub record Ready (fig : Figure) (t : System) (f : Refinement) : Type 0 where
-  pub shown : Shown fig t (vec_items f.nodes) f.row
+  pub shown : Shown fig t f.nodes f.row
   pub index : IndexOf t f.index
-  pub figures : size_of f.row ≤ vec_len f.figures
+  pub figures : size_of f.row ≤ length f.figures

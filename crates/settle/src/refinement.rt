@@ -1,23 +1,19 @@
 //! What settling works on, and what it leaves: the groups and the record of splits.
-ghost use Rattle.std.specs.Prelude.{◌≤◌, vec_capacity};
-
 use figures::index::Index;
 use partition::row::Row;
-use table::parts::Node;
+use table::parts::{Node, PerNode, PerState};
 
 pub mod settling;
+mod subject;
 
 /// All the room that settling takes, whatever the table.
+// The row's stretches and the record's nodes have the same numbers and are two lists: the row knows nothing of labels, markers and figures.
 #[derive(Drop)]
 pub struct Refinement {
     row: Row,
-    nodes: Vec<Node>,
+    nodes: PerNode<Node>,
     index: Index,
-    figures: Vec<i64>,
-    numbers: Vec<Option<u16>>,
-    groups: Vec<u16>,
-    ghost room_nodes: { 2048 ≤ vec_capacity nodes },
-    ghost room_figures: { 1024 ≤ vec_capacity figures },
-    ghost room_numbers: { 2048 ≤ vec_capacity numbers },
-    ghost room_groups: { 1024 ≤ vec_capacity groups },
+    figures: PerState<i64>,
+    numbers: PerNode<Option<u16>>,
+    groups: PerState<u16>,
 }

@@ -1,2 +1,1 @@
-mod Shapes
 pub mod Lawfuls

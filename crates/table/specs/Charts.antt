@@ -1,15 +1,10 @@
 -- What a chart holds, and what it answers.
-use Rattle.std.specs.Prelude.{ℕ, cond, [], ◌∷◌, ◌++◌, length, Ok, Err, vec_items, Result, nat_le, nat_lt}
+use Rattle.std.specs.Prelude.{ℕ, cond, [], ◌∷◌, ◌++◌, length, Ok, Err, Result, nat_le, nat_lt}
 use Rattle.table.specs.System.{System, size}
 use Rattle.table.specs.declared.parts.State.{State}
 use Rattle.table.specs.declared.parts.Link.{Link}
 use Rattle.table.specs.declared.parts.Refusal.{Refusal}
 use Rattle.table.specs.declared.parts.Refusal.TheVariants.{Full, BadSort, NoSuchNumber, BadLabel}
-use Rattle.table.specs.declared.chart.Chart.{Chart}
-
--- the states and links of a chart
-abbrev pub system_of : Chart → System
-system_of c = record { states = vec_items c.states; links = vec_items c.links }
 
 abbrev pub no_system : System
 no_system = record { states = []; links = [] }

@@ -1,3 +1,4 @@
+pub mod Origins
 pub mod Refusals
 pub mod System
 pub mod Numbering

@@ -1,26 +1,16 @@
--- What always holds of the states and links of a chart: each fact by itself.
-use Rattle.std.specs.Prelude.{ℕ, ◌^◌, ◌<◌, List, length}
+-- What always holds of a table's states and links, each fact for each place.
+use Rattle.std.specs.Prelude.{◌^◌, ◌<◌, ◌≤◌, length}
 use Rattle.std.specs.Int.Signed.{mag}
 use Rattle.std.specs.List.{AllWithin}
-use Rattle.table.specs.declared.parts.State.{State}
-use Rattle.table.specs.declared.parts.Link.{Link}
+use Rattle.table.specs.System.{System, size}
 
-abbrev pub Sorts : List State → Type 0
-Sorts states = AllWithin (λ s. s.sort < 4) states 0 (length states)
-
-abbrev pub Outputs : List State → Type 0
-Outputs states = AllWithin (λ s. s.output < 2 ^ 16) states 0 (length states)
-
--- the links leave and reach one of n states
-abbrev pub Sources : ℕ → List Link → Type 0
-Sources n links = AllWithin (λ k. k.source < n) links 0 (length links)
-
-abbrev pub Labels : List Link → Type 0
-Labels links = AllWithin (λ k. k.label < 64) links 0 (length links)
-
--- the weights fit 32 bits, signed
-abbrev pub Weights : List Link → Type 0
-Weights links = AllWithin (λ k. mag k.weight < 2 ^ 31) links 0 (length links)
-
-abbrev pub Targets : ℕ → List Link → Type 0
-Targets n links = AllWithin (λ k. k.target < n) links 0 (length links)
+-- no more than a table can hold, every number in its range, and links between states that are there: lawful and small
+pub record Kept (t : System) : Type 0 where
+  pub few_states : size t ≤ 1024
+  pub few_links : length t.links ≤ 4096
+  pub sorts : AllWithin (λ s. s.sort < 4) t.states 0 (size t)
+  pub outputs : AllWithin (λ s. s.output < 2 ^ 16) t.states 0 (size t)
+  pub sources : AllWithin (λ k. k.source < size t) t.links 0 (length t.links)
+  pub labels : AllWithin (λ k. k.label < 64) t.links 0 (length t.links)
+  pub weights : AllWithin (λ k. mag k.weight < 2 ^ 31) t.links 0 (length t.links)
+  pub targets : AllWithin (λ k. k.target < size t) t.links 0 (length t.links)

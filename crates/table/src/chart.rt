@@ -1,23 +1,25 @@
 //! The states and links of a table, in room that is reserved once.
-ghost use Rattle.std.specs.Prelude.{◌≤◌, vec_len, vec_capacity};
-ghost use Rattle.table.specs.Shape.{Sorts, Outputs, Sources, Labels, Weights, Targets};
-
-use crate::parts::{Link, State};
+use crate::parts::{Link, PerLink, PerState, State};
+use std::marker::Model;
 
 pub mod calls;
 
+/// The states and the links of a table.
 #[derive(Drop)]
 pub struct Chart {
-    states: Vec<State>,
-    links: Vec<Link>,
-    ghost few_states: { vec_len states ≤ 1024 },
-    ghost few_links: { vec_len links ≤ 4096 },
-    ghost room_states: { 1024 ≤ vec_capacity states },
-    ghost room_links: { 4096 ≤ vec_capacity links },
-    ghost sorts: { Sorts states.items },
-    ghost outputs: { Outputs states.items },
-    ghost sources: { Sources (vec_len states) links.items },
-    ghost labels: { Labels links.items },
-    ghost weights: { Weights links.items },
-    ghost targets: { Targets (vec_len states) links.items },
+    states: PerState<State>,
+    links: PerLink<Link>,
+}
+
+// Clauses see the states and the links.
+impl Model for Chart {
+    ghost use Rattle.table.specs.System.{System};
+
+    ghost Value = { System };
+
+    ghost use Rattle.table.specs.Shape.{Kept};
+
+    ghost view = { λ c. record { states = c.states; links = c.links } };
+
+    ghost invariant = { λ c. Kept (record { states = c.states; links = c.links }) };
 }

@@ -1,12 +1,26 @@
 //! States, links and refusals.
 ghost use Rattle.std.specs.Prelude.{◌≡◌};
+ghost use Rattle.table.specs.Origins.{origin_of};
 ghost use Rattle.table.specs.Refusals.{number_of};
+
+use room::Room;
 
 /// The most states that a table holds.
 pub const MAX_STATES: u16 = 1024;
 
 /// The most links that a table holds.
 pub const MAX_LINKS: u16 = 4096;
+
+// A const argument is not computed, so the limits stand here once more.
+
+/// A list with an item for each state.
+pub type PerState<T> = Room<T, 1024>;
+
+/// A list with an item for each link.
+pub type PerLink<T> = Room<T, 4096>;
+
+/// A list with an item for each node of the record of splits: at most two for each state.
+pub type PerNode<T> = Room<T, 2048>;
 
 /// A state, whose number is its place in the table.
 #[derive(Clone, Copy, PartialEq, Eq, Debug)]
@@ -43,44 +57,46 @@ pub enum Node {
     Part(Origin),
 }
 
-/// Why a call is not carried out.
+impl Node {
+    /// Where the node comes from: a starting node comes from none.
+    pub fn origin(self) -> Option<Origin>
+        ensures { result ≡ origin_of self }
+    {
+        match self {
+            Node::Start(_) => None,
+            Node::Part(origin) => Some(origin),
+        }
+    }
+}
+
+/// Why a call is not carried out, with the number by which users know it.
 #[derive(Clone, Copy, PartialEq, Eq, Debug)]
 pub enum Refusal {
     /// Adding, linking or settling a settled table.
-    AlreadySettled,
+    AlreadySettled = 1,
     /// Asking an open table for what only a settled one has.
-    NotSettled,
+    NotSettled = 2,
     /// One state or link too many.
-    Full,
+    Full = 3,
     /// A sort above 3.
-    BadSort,
+    BadSort = 4,
     /// The number of a state or node that is not there.
-    NoSuchNumber,
+    NoSuchNumber = 5,
     /// A label above 63.
-    BadLabel,
+    BadLabel = 6,
     /// A file that ends before a field is whole.
-    CutShort,
+    CutShort = 7,
     /// Bytes after the links of a file.
-    TrailingBytes,
+    TrailingBytes = 8,
     /// More to write than the buffer holds.
-    NoRoom,
+    NoRoom = 9,
 }
 
 impl Refusal {
-    /// The number by which users know a refusal.
+    /// The number by which users know it.
     pub fn number(self) -> u8
         ensures { result ≡ number_of self }
     {
-        match self {
-            Refusal::AlreadySettled => 1,
-            Refusal::NotSettled => 2,
-            Refusal::Full => 3,
-            Refusal::BadSort => 4,
-            Refusal::NoSuchNumber => 5,
-            Refusal::BadLabel => 6,
-            Refusal::CutShort => 7,
-            Refusal::TrailingBytes => 8,
-            Refusal::NoRoom => 9,
-        }
+        self as u8
     }
 }

@@ -1,24 +1,22 @@
 -- How long a report can be.
-use Rattle.std.proofs.Common.{ℕ, suc, ◌+◌, ◌*◌, ◌<◌, ◌≤◌, List, [], ◌∷◌, ◌++◌, length, codes, decimal, arith}
+use Rattle.std.proofs.Common.{◌≡◌, ℕ, suc, ◌+◌, ◌*◌, ◌<◌, ◌≤◌, List, [], ◌∷◌, ◌++◌, length, decimal, arith}
 use Rattle.std.specs.List.{AllByRecursion}
 use Rattle.std.proofs.lemmas.Fmt.{length-decimal-le}
 use Rattle.std.proofs.lemmas.List.{length-append}
-use Rattle.text.specs.Report.{head_of, lines_from, report_of}
-use Rattle.text.proofs.Lines.{line_length}
+use Rattle.text.specs.Report.{head_of, line_of, lines_from, report_of}
 
 four : (n : ℕ) → n < 10000 → length (decimal n) ≤ 4
 four n h = length-decimal-le 4 n (omega arith) (omega arith) (omega arith)
+
+line_length : (x g : ℕ) (rest : List ℕ) → length (line_of x g ++ rest) ≡ length (decimal x) + length (decimal g) + 2 + length rest
+line_length x g rest = simp length-append (omega arith)
 
 lines_short : (x : ℕ) (groups : List ℕ) → x + length groups ≤ 10000 → AllByRecursion (λ g. g < 10000) groups → length (lines_from x groups) ≤ 10 * length groups
 lines_short x [] h low = omega arith
 lines_short x (g ∷ groups) h low = omega (arith, line_length x g (lines_from (suc x) groups), four x (omega arith), four g low.0, lines_short (suc x) groups (omega arith) low.1)
 
 head_short : (states links groups : ℕ) → states < 10000 → links < 10000 → groups < 10000 → length (head_of states links groups) ≤ 35
-head_short states links groups a b c =
-    let s = decimal states in
-    let l = decimal links in
-    let g = decimal groups in
-    omega (arith, length-append s (codes " links " ++ (l ++ (codes " groups " ++ (g ++ (10 ∷ []))))), length-append l (codes " groups " ++ (g ++ (10 ∷ []))), length-append g (10 ∷ []), four states a, four links b, four groups c)
+head_short states links groups a b c = simp length-append (omega (arith, four states a, four links b, four groups c))
 
 -- no table has a longer one
 pub report_short : (links : ℕ) (groups : List ℕ) (count : ℕ) → links ≤ 4096 → length groups ≤ 1024 → count ≤ 1024 → AllByRecursion (λ g. g < 10000) groups → length (report_of links groups count) ≤ 10275

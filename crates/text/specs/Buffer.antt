@@ -1,21 +1,32 @@
 -- Text that is laid over a lent buffer.
-use Rattle.std.specs.Prelude.{◌≡◌, ℕ, suc, ◌+◌, ◌-◌, cond, List, [], ◌∷◌, ◌++◌, length, drop, Ok, Err, Result, nat_le, slice_set}
+use Rattle.std.specs.Prelude.{◌≡◌, ℕ, suc, ◌+◌, ◌-◌, cond, List, [], ◌∷◌, ◌++◌, length, drop, Ok, Err, Result, OnOk, nat_le, slice_set}
 use Rattle.table.specs.declared.parts.Refusal.{Refusal}
 use Rattle.table.specs.declared.parts.Refusal.TheVariants.{NoRoom}
+use Rattle.text.specs.declared.buffer.Buffer.{Buffer}
+use Rattle.text.specs.declared.buffer.Mode.{Mode}
+use Rattle.text.specs.declared.buffer.Mode.TheVariants.{Write, Measure}
 
 -- a text laid over a buffer from a place on: what does not fit is left out
 unfoldable pub laid : List ℕ → ℕ → List ℕ → List ℕ
 laid buffer at [] = buffer
 laid buffer at (b ∷ text) = laid (slice_set buffer at b) (suc at) text
 
--- where a writer stands after n bytes, in a buffer of so many bytes
-abbrev pub reached : ℕ → ℕ → ℕ → Result ℕ Refusal
-reached size at n = cond (nat_le n (size - at)) (Ok (at + n)) (Err NoRoom)
+-- whether n more bytes fit into a buffer of so many bytes, from a place on
+abbrev pub fits_at : ℕ → ℕ → ℕ → Result (Unit {0}) Refusal
+fits_at size at n = cond (nat_le n (size - at)) (Ok tt) (Err NoRoom)
 
--- a text was written from a place on, as far as it fits: what the buffer was and is, and the answer
-pub record Wrote (before : List ℕ) (at : ℕ) (text after : List ℕ) (r : Result ℕ Refusal) : Type 0 where
-  pub bytes : after ≡ laid before at text
-  pub end : r ≡ reached (length before) at (length text)
+-- what is written, or else what was there
+abbrev pub by_mode : Mode → List ℕ → List ℕ → List ℕ
+by_mode Write new old = new
+by_mode Measure new old = old
+
+-- a text was written as far as it fits, or measured alone: the buffer before, the answer, and the buffer after
+pub record Wrote (before : Buffer) (text : List ℕ) (r : Result (Unit {0}) Refusal) (after : Buffer) : Type 0 where
+  pub bytes : after.out.now ≡ by_mode before.mode (laid before.out.now before.len text) before.out.now
+  pub answer : r ≡ fits_at (length before.out.now) before.len (length text)
+  pub counted : OnOk r (after.len ≡ before.len + length text)
+  pub mode : after.mode ≡ before.mode
+  pub same : after.out.ghost_name ≡ before.out.ghost_name
 
 -- the answer of a writer that writes all of a text or nothing: its length, or a refusal
 abbrev pub whole_answer : List ℕ → List ℕ → Result ℕ Refusal

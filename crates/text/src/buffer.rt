@@ -1,49 +1,81 @@
-//! Bytes and numbers, written one after another into a lent buffer.
-ghost use Rattle.std.specs.Prelude.{◌≡◌, ◌≤◌, [], ◌∷◌, length, decimal};
+//! A lent buffer that texts are written into, one after another.
+ghost use Rattle.std.specs.Prelude.{◌≡◌, [], ◌∷◌, ◌++◌};
 ghost use Rattle.text.specs.Buffer.{Wrote};
 
+use itoa::Integer;
 use table::parts::Refusal;
 
-/// Writes one byte at a place, and answers the next place.
-pub fn put(out: &mut [u8], at: usize, byte: u8) -> Result<usize, Refusal>
-    ensures { Wrote out.old at (byte ∷ []) out.new result }
-{
-    if at >= out.len() {
-        return Err(Refusal::NoRoom);
-    }
-    out[at] = byte;
-    Ok(at + 1)
+/// What is done with bytes: they are written, or they are counted alone, to measure whether a text fits.
+#[derive(Clone, Copy, PartialEq, Eq, Debug)]
+pub enum Mode {
+    Write,
+    Measure,
 }
 
-/// Writes some bytes.
-pub fn put_all(out: &mut [u8], at: usize, bytes: &[u8]) -> Result<usize, Refusal>
-    ensures { Wrote out.old at bytes.now out.new result }
-{
-    let mut at = at;
-    for byte in bytes {
-        at = put(out, at, *byte)?;
-    }
-    Ok(at)
+/// A lent buffer that is filled from its front, byte after byte, until it is full; to measure a text, its bytes are only counted.
+// Not a `fmt::Write` for `write!`, nor an `io::Cursor`: of a writer that failed the first says nothing, and the second not that it still
+// holds the same buffer. And one struct with a mode, not two with a trait: the trait's impls would be the two cases of `put`.
+#[derive(Drop)]
+pub struct Buffer<'a> {
+    out: &'a mut [u8],
+    // how many bytes were written, or counted
+    len: usize,
+    mode: Mode,
 }
 
-/// Writes a number in base ten.
-pub fn write_decimal(out: &mut [u8], at: usize, n: u64) -> Result<usize, Refusal>
-    ensures { Wrote out.old at (decimal n) out.new result }
-{
-    if n < 10 {
-        return put(out, at, b'0' + n as u8);
+impl<'a> Buffer<'a> {
+    /// Nothing is written yet.
+    pub fn new(out: &'a mut [u8], mode: Mode) -> Buffer<'a>
+        ensures { result ≡ record { out = out.entry; len = 0; mode = mode } }
+    {
+        Buffer { out, len: 0, mode }
     }
-    let at = write_decimal(out, at, n / 10)?;
-    put(out, at, b'0' + (n % 10) as u8)
-}
 
-/// How many bytes a number has in base ten.
-pub fn decimal_len(n: u64) -> usize
-    ensures value { result ≡ length (decimal n) }
-    ensures few { result ≤ 20 }
-{
-    if n < 10 {
-        return 1;
+    /// How many bytes were written so far: where the next one goes.
+    pub fn len(&self) -> usize
+        ensures { result ≡ self.now.len }
+    {
+        let written = self.len;
+        written
     }
-    1 + decimal_len(n / 10)
+
+    /// Writes one byte. Where there is no room, this and what calls it refuse, and leave what was written before.
+    pub fn put(&mut self, byte: u8) -> Result<(), Refusal>
+        ensures { Wrote self.old (byte ∷ []) result self.new }
+    {
+        if self.len >= self.out.len() {
+            return Err(Refusal::NoRoom);
+        }
+        if self.mode == Mode::Write {
+            self.out[self.len] = byte;
+        }
+        self.len += 1;
+        Ok(())
+    }
+
+    /// Writes some bytes.
+    pub fn put_all(&mut self, bytes: &[u8]) -> Result<(), Refusal>
+        ensures { Wrote self.old bytes.now result self.new }
+    {
+        for byte in bytes {
+            self.put(*byte)?;
+        }
+        Ok(())
+    }
+
+    /// Writes a number in base ten.
+    pub fn put_number<I: Integer>(&mut self, n: I) -> Result<(), Refusal>
+        ensures { Wrote self.old (I.text n) result self.new }
+    {
+        let mut digits = itoa::Buffer::new();
+        self.put_all(digits.format(n).as_bytes())
+    }
+
+    /// Writes a word, and a number after it.
+    pub fn put_number_after<I: Integer>(&mut self, word: &[u8], n: I) -> Result<(), Refusal>
+        ensures { Wrote self.old (word.now ++ I.text n) result self.new }
+    {
+        self.put_all(word)?;
+        self.put_number(n)
+    }
 }

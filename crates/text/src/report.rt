@@ -1,89 +1,75 @@
 //! The report of a settled table.
-ghost use Rattle.std.specs.Prelude.{◌≡◌, ◌+◌, ◌<◌, ◌≤◌, true, false, length};
-ghost use Rattle.text.specs.Buffer.{Wrote, whole_answer, whole_buffer};
-ghost use Rattle.text.specs.Report.{head_of, line_of, lines_from, report_of};
+ghost use Rattle.std.specs.Prelude.{◌≡◌, length};
+ghost use Rattle.text.specs.Buffer.{Wrote, fits_at, whole_answer, whole_buffer};
+ghost use Rattle.text.specs.Report.{head_of, line_of, lines_from, text_of};
 
-use crate::buffer::{decimal_len, put, put_all, write_decimal};
+use crate::buffer::{Buffer, Mode};
 use table::parts::Refusal;
 
-// Writes how many states, links and groups there are.
-fn write_head(out: &mut [u8], states: usize, links: usize, groups: u16) -> Result<usize, Refusal>
-    ensures { Wrote out.old 0 (head_of states links groups) out.new result }
-{
-    let at = put_all(out, 0, b"states ")?;
-    let at = write_decimal(out, at, states as u64)?;
-    let at = put_all(out, at, b" links ")?;
-    let at = write_decimal(out, at, links as u64)?;
-    let at = put_all(out, at, b" groups ")?;
-    let at = write_decimal(out, at, groups as u64)?;
-    put(out, at, b'\n')
+/// What the report of a settled table tells: how many links there are, the groups of the states in order, and how many groups there
+/// are.
+#[derive(Clone, Copy)]
+pub struct Report<'a> {
+    pub links: usize,
+    pub groups: &'a [u16],
+    pub count: u16,
 }
 
 // Writes the line of a state.
-fn write_line(out: &mut [u8], at: usize, state: usize, group: u16) -> Result<usize, Refusal>
-    ensures { Wrote out.old at (line_of state group) out.new result }
+fn put_line(out: &mut Buffer<'_>, state: usize, group: u16) -> Result<(), Refusal>
+    ensures { Wrote out.old (line_of state group) result out.new }
 {
-    let at = write_decimal(out, at, state as u64)?;
-    let at = put(out, at, b' ')?;
-    let at = write_decimal(out, at, group as u64)?;
-    put(out, at, b'\n')
+    out.put_number(state)?;
+    out.put_number_after(b" ", group)?;
+    out.put(b'\n')
 }
 
-// Writes a line for each state.
-fn write_lines(out: &mut [u8], at: usize, groups: &[u16]) -> Result<usize, Refusal>
-    ensures { Wrote out.old at (lines_from 0 groups.now) out.new result }
-{
-    let mut at = at;
-    for state in 0..groups.len() {
-        at = write_line(out, at, state, groups[state])?;
+impl Report<'_> {
+    // Writes how many states, links and groups there are.
+    fn put_head(&self, out: &mut Buffer<'_>) -> Result<(), Refusal>
+        ensures { Wrote out.old (head_of (length self.now.groups.now) self.now.links self.now.count) result out.new }
+    {
+        out.put_number_after(b"states ", self.groups.len())?;
+        out.put_number_after(b" links ", self.links)?;
+        out.put_number_after(b" groups ", self.count)?;
+        out.put(b'\n')
     }
-    Ok(at)
-}
 
-fn head_len(states: usize, links: usize, groups: u16) -> usize
-    ensures value { result ≡ length (head_of states links groups) }
-    ensures few { result ≤ 83 }
-{
-    // the words, the spaces and the line's end are 23 bytes
-    23 + decimal_len(states as u64) + decimal_len(links as u64) + decimal_len(groups as u64)
-}
-
-fn lines_len(groups: &[u16]) -> usize
-    requires { length groups.now ≤ 1024 }
-    ensures value { result ≡ length (lines_from 0 groups.now) }
-    ensures few { result ≤ 43008 }
-{
-    let mut len = 0;
-    for state in 0..groups.len() {
-        len += decimal_len(state as u64) + decimal_len(groups[state] as u64) + 2;
+    // Writes a line for each state.
+    fn put_lines(&self, out: &mut Buffer<'_>) -> Result<(), Refusal>
+        ensures { Wrote out.old (lines_from 0 self.now.groups.now) result out.new }
+    {
+        for (state, group) in self.groups.iter().enumerate() {
+            put_line(out, state, *group)?;
+        }
+        Ok(())
     }
-    len
-}
 
-// Whether a buffer of so many bytes has room for the report.
-fn has_room(size: usize, links: usize, groups: &[u16], count: u16) -> bool
-    requires { length groups.now ≤ 1024 }
-    ensures room { result ≡ true → length (head_of (length groups.now) links count) + length (lines_from 0 groups.now) ≤ size }
-    ensures none { result ≡ false → size < length (head_of (length groups.now) links count) + length (lines_from 0 groups.now) }
-{
-    head_len(groups.len(), links, count) + lines_len(groups) <= size
-}
-
-/// Writes the report of a table with so many links, these groups of its states, and so many groups, and answers its length. A
-/// report that is longer than the buffer is refused, and the buffer is left alone.
-pub fn write_report(
-    out: &mut [u8],
-    links: usize,
-    groups: &[u16],
-    count: u16,
-) -> Result<usize, Refusal>
-    requires { length groups.now ≤ 1024 }
-    ensures answer { result ≡ whole_answer out.old (report_of links groups.now count) }
-    ensures buffer { out.new ≡ whole_buffer out.old (report_of links groups.now count) }
-{
-    if !has_room(out.len(), links, groups, count) {
-        return Err(Refusal::NoRoom);
+    // Writes the whole report, as far as it fits.
+    fn put_into(&self, out: &mut Buffer<'_>) -> Result<(), Refusal>
+        ensures { Wrote out.old (text_of self.now) result out.new }
+    {
+        self.put_head(out)?;
+        self.put_lines(out)
     }
-    let at = write_head(out, groups.len(), links, count)?;
-    write_lines(out, at, groups)
+
+    // Whether the report fits into a buffer, which is left alone.
+    fn measure(&self, out: &mut [u8]) -> Result<(), Refusal>
+        ensures answer { result ≡ fits_at (length out.old) 0 (length (text_of self.now)) }
+        ensures buffer { out.new ≡ out.old }
+    {
+        self.put_into(&mut Buffer::new(out, Mode::Measure))
+    }
+
+    /// Writes the report into a buffer, and answers its length. A report that is longer than the buffer is refused, and the buffer
+    /// is left alone.
+    pub fn write_to(&self, out: &mut [u8]) -> Result<usize, Refusal>
+        ensures answer { result ≡ whole_answer out.old (text_of self.now) }
+        ensures buffer { out.new ≡ whole_buffer out.old (text_of self.now) }
+    {
+        self.measure(out)?;
+        let mut buffer = Buffer::new(out, Mode::Write);
+        self.put_into(&mut buffer)?;
+        Ok(buffer.len())
+    }
 }

@@ -2,8 +2,9 @@
 #![tactic(auto)]
 
 use std::process::ExitCode;
-use weigher::piles::TIMED_PILE;
+use weigher::piles::{Pile, Timed};
 
+// a program for each pile; what they do is `console::run`
 fn main(rt: HostRuntime) -> anyhow::Result<ExitCode> {
-    console::run(&rt, TIMED_PILE)
+    console::run(&rt, Timed::PILE)
 }

@@ -1,23 +1,9 @@
 -- A summary of a list that takes one element after another, where the order of two does not matter.
 use Rattle.std.specs.Prelude.{◌≡◌, ℕ, zero, suc, ◌<◌, List, [], ◌∷◌, ◌++◌, length, slice_index_or, slice_set, refl}
-use Rattle.std.proofs.Common.{sym, ap, subst, ◌∙◌, arith}
+use Rattle.std.proofs.Common.{sym, ap, ◌∙◌, arith}
 use Rattle.std.specs.List.Sorted.{IsPermutation}
 use Rattle.std.specs.List.{swap as exchanged}
-use Rattle.std.proofs.lemmas.List.Sorted.{IsPermutation-keeps, IsPermutation-cons, IsPermutation-refl, IsPermutation-trans, IsPermutation-swap, IsPermutation-to_front}
-use Rattle.std.proofs.lemmas.List.{append-nil}
-
--- the front behind the back
-pub shuffled_append : {X : Type 0} (u v : List X) → IsPermutation (u ++ v) (v ++ u)
-shuffled_append [] v = subst (IsPermutation v) (sym (append-nil v)) (IsPermutation-refl v)
-shuffled_append {X} (x ∷ u) v =
-    IsPermutation-trans (x ∷ (u ++ v)) (x ∷ (v ++ u)) (v ++ (x ∷ u)) (IsPermutation-cons x (u ++ v) (v ++ u) (shuffled_append u v)) (middle v)
-  where
-    middle : (p : List X) → IsPermutation (x ∷ (p ++ u)) (p ++ (x ∷ u))
-    middle [] = IsPermutation-refl (x ∷ u)
-    middle (y ∷ p) =
-        IsPermutation-trans (x ∷ y ∷ (p ++ u)) (y ∷ x ∷ (p ++ u)) (y ∷ (p ++ (x ∷ u)))
-        (IsPermutation-swap (x ∷ y ∷ (p ++ u)) (y ∷ x ∷ (p ++ u)) 0 1 (omega arith) (omega arith) refl)
-        (IsPermutation-cons y (x ∷ (p ++ u)) (p ++ (x ∷ u)) (middle p))
+use Rattle.std.proofs.lemmas.List.Sorted.{IsPermutation-keeps, IsPermutation-to_front, IsPermutation-append_comm}
 
 module _ {X M : Type 0} (h : List X → M) (step : X → M → M) (cons : (x : X) (xs : List X) → h (x ∷ xs) ≡ step x (h xs)) (swap : (x y : X) (m : M) → step x (step y m) ≡ step y (step x m)) where
   -- one element for another, and that one before it
@@ -50,8 +36,8 @@ module _ {X M : Type 0} (h : List X → M) (step : X → M → M) (cons : (x : X
 
   pub gather_joins : (u u' v v' : List X) → h u ≡ h u' → h v ≡ h v' → h (u ++ v) ≡ h (u' ++ v')
   gather_joins u u' v v' p q =
-      back u v v' q ∙ gather_shuffled (u ++ v') (v' ++ u) (shuffled_append u v') ∙ back v' u u' p
-      ∙ gather_shuffled (v' ++ u') (u' ++ v') (shuffled_append v' u')
+      back u v v' q ∙ gather_shuffled (u ++ v') (v' ++ u) (IsPermutation-append_comm u v') ∙ back v' u u' p
+      ∙ gather_shuffled (v' ++ u') (u' ++ v') (IsPermutation-append_comm v' u')
 
   pub gather_push : (xs : List X) (x : X) → h (xs ++ x ∷ []) ≡ step x (h xs)
   gather_push xs x = gather_shuffled (xs ++ x ∷ []) (x ∷ xs) (IsPermutation-to_front xs x) ∙ cons x xs

@@ -45,7 +45,7 @@ unfolding most_step
 most_swap a b None = ap Some (omega (arith, ints, clamps))
 most_swap a b (Some m) = ap Some (omega (arith, ints, clamps))
 
-most_push : (ws : List ℤ) (w : ℤ) (m : Option ℤ) → m ≡ most ws → most (ws ++ w ∷ []) ≡ Some (larger w m)
+pub most_push : (ws : List ℤ) (w : ℤ) (m : Option ℤ) → m ≡ most ws → most (ws ++ w ∷ []) ≡ Some (larger w m)
 unfolding most_step
 most_push ws w m e = gather_push most most_step most_cons most_swap ws w ∙ ap (λ o. Some (larger w o)) (sym e)
 
@@ -78,12 +78,6 @@ same_most (Some m) (Some n) p q e = ap Some e
 
 greatest_most : (u v : List ℤ) → InRange u → InRange v → unwrap_or (most u) (pos 2147483648) ≡ unwrap_or (most v) (pos 2147483648) → most u ≡ most v
 greatest_most u v p q e = same_most (most u) (most v) (most_fits u p) (most_fits v q) e
-
-pub most_over : (ws : List ℤ) (w top : ℤ) (m : Option ℤ) → m ≡ most ws → m ≡ Some top → Some (int_max w top) ≡ most (ws ++ w ∷ [])
-most_over ws w top m e s = ap (λ o. Some (larger w o)) (sym s) ∙ sym (most_push ws w m e)
-
-pub most_first : (ws : List ℤ) (w : ℤ) (m : Option ℤ) → m ≡ most ws → m ≡ None → Some w ≡ most (ws ++ w ∷ [])
-most_first ws w m e s = ap (λ o. Some (larger w o)) (sym s) ∙ sym (most_push ws w m e)
 
 -- one weight more, and it wraps
 pub sum_push : (ws : List ℤ) (w load : ℤ) → load ≡ int_wrap w64 (total ws) → int_wrap w64 (load +ℤ w) ≡ int_wrap w64 (total (ws ++ w ∷ []))
@@ -118,6 +112,7 @@ blind_order s l sl ll u v ru rv h = refl
 pub blind_joining : Joining blind
 blind_joining s l sl ll u u' v v' ru ru' rv rv' p q = refl
 
+-- the layers, over any two lawful figures
 pub by_label_order : (cut : ℕ) (f g : Figure) → Order f → Order g → Order (by_label cut f g)
 by_label_order cut f g a b s l sl ll u v ru rv h =
     elim (nat_lt l cut) as (λ t. cond t (f s l u) (g s (l - cut) u) ≡ cond t (f s l v) (g s (l - cut) v))

@@ -10,6 +10,7 @@ pub mod plain;
 
 /// A weigher has a figure for each sort, label and list of weights, and is asked for it weight after weight.
 /// (In the field: a commutative monoid with a congruence, as the functor of a coalgebra.)
+// A sort and a label stay two numbers: nothing ties them, and the layers change one and pass the other on.
 pub trait Weigher {
     type Load: Copy;
 

@@ -1,6 +1,5 @@
 //! The weighers that stand alone.
 ghost use Rattle.std.specs.Prelude.{◌≡◌};
-ghost use Rattle.std.specs.Int.{int_max};
 ghost use Rattle.weigher.specs.Weighers.{reach, sum, greatest, blind, most};
 ghost use Rattle.weigher.specs.Loads.{some};
 ghost use Rattle.weigher.specs.Laws.{reach_order, reach_joining, sum_order, sum_joining, greatest_order, greatest_joining};
@@ -44,7 +43,7 @@ impl Weigher for Reach {
     }
 
     fn weigh(&self, _sort: u8, _label: u8, load: bool) -> i64 {
-        if load { 1 } else { 0 }
+        i64::from(load)
     }
 }
 
@@ -63,6 +62,7 @@ impl Weigher for Sum {
         0
     }
 
+    #[tactic(auto, using(crate::specs::Laws::sum_push, std::proofs::lemmas::Int::wraps))]
     fn add(&self, _sort: u8, _label: u8, load: i64, weight: i32) -> i64 {
         load.wrapping_add(i64::from(weight))
     }
@@ -70,13 +70,6 @@ impl Weigher for Sum {
     fn weigh(&self, _sort: u8, _label: u8, load: i64) -> i64 {
         load
     }
-}
-
-// The larger of two weights.
-fn larger(top: i32, weight: i32) -> i32
-    ensures { result ≡ int_max weight top }
-{
-    if top > weight { top } else { weight }
 }
 
 impl Weigher for Greatest {
@@ -94,9 +87,10 @@ impl Weigher for Greatest {
         None
     }
 
+    #[tactic(auto, using(crate::specs::Laws::most_push))]
     fn add(&self, _sort: u8, _label: u8, load: Option<i32>, weight: i32) -> Option<i32> {
         match load {
-            Some(top) => Some(larger(top, weight)),
+            Some(top) => Some(top.max(weight)),
             None => Some(weight),
         }
     }

@@ -3,29 +3,29 @@
 
 #[cfg(test)]
 mod tests {
-    use weigher::layers::ByLabel;
-    use weigher::piles::{LOTS_PILE, TIMED_PILE, buttons_figure, lots_figure, timed_figure};
+    use weigher::layers::{ByLabel, LabelBelow};
+    use weigher::piles::{Buttons, Lots, Pile, Timed, pile_figure};
     use weigher::plain::{Blind, Sum};
     use weigher::weigh_list;
 
     #[test]
     fn weighs_by_the_piles(rt: HostRuntime) {
-        assert_eq!(rt; buttons_figure(0, 0, &[]), 0);
-        assert_eq!(rt; buttons_figure(0, 0, &[0]), 1);
-        assert_eq!(rt; timed_figure(0, 47, &[3, 4]), 1);
-        assert_eq!(rt; timed_figure(0, 48, &[3, -4]), 3);
-        assert_eq!(rt; timed_figure(0, 48, &[]), 2_147_483_648);
-        assert_eq!(rt; lots_figure(0, 0, &[5, -5]), 1);
-        assert_eq!(rt; lots_figure(1, 0, &[5, -5]), 0);
-        assert_eq!(rt; lots_figure(3, 0, &[i32::MAX, 1]), 2_147_483_648);
+        assert_eq!(rt; pile_figure::<Buttons>(0, 0, &[]), 0);
+        assert_eq!(rt; pile_figure::<Buttons>(0, 0, &[0]), 1);
+        assert_eq!(rt; pile_figure::<Timed>(0, 47, &[3, 4]), 1);
+        assert_eq!(rt; pile_figure::<Timed>(0, 48, &[3, -4]), 3);
+        assert_eq!(rt; pile_figure::<Timed>(0, 48, &[]), 2_147_483_648);
+        assert_eq!(rt; pile_figure::<Lots>(0, 0, &[5, -5]), 1);
+        assert_eq!(rt; pile_figure::<Lots>(1, 0, &[5, -5]), 0);
+        assert_eq!(rt; pile_figure::<Lots>(3, 0, &[i32::MAX, 1]), 2_147_483_648);
     }
 
     #[test]
     fn weighs_by_a_deeper_pile(rt: HostRuntime) {
         let pile = ByLabel {
-            cut: 10,
-            first: LOTS_PILE,
-            second: TIMED_PILE,
+            choice: LabelBelow { cut: 10 },
+            first: Lots::PILE,
+            second: Timed::PILE,
         };
         assert_eq!(rt; weigh_list(&pile, 1, 9, &[2, 3]), 5);
         assert_eq!(rt; weigh_list(&pile, 1, 57, &[2, 3]), 1);

@@ -1,45 +1,53 @@
 //! What makes, changes and tells of a chart.
 ghost use Rattle.std.specs.Prelude.{◌≡◌, IfOk};
-ghost use Rattle.table.specs.Charts.{system_of, no_system, with_state, with_link, state_answer, link_answer, afterwards};
+ghost use Rattle.table.specs.Shape.{Kept};
+ghost use Rattle.table.specs.Charts.{no_system, with_state, with_link, state_answer, link_answer, afterwards};
 
 use super::Chart;
 use crate::parts::{Link, MAX_LINKS, MAX_STATES, Refusal, State};
+use room::Room;
 use std::alloc::{AllocError, Global};
 
 impl Chart {
     /// No states and no links, with room for all that a table may hold.
     pub fn reserve(heap: Global) -> Result<Chart, AllocError>
-        ensures { IfOk result (λ c. system_of c ≡ no_system) }
+        ensures { IfOk result (λ c. c ≡ no_system) }
     {
-        let states = Vec::with_capacity(heap, MAX_STATES as usize)?;
-        let links = Vec::with_capacity(heap, MAX_LINKS as usize)?;
+        let states = Room::reserve(heap)?;
+        let links = Room::reserve(heap)?;
         Ok(Chart { states, links })
     }
 
+    /// The states, in the order of their numbers.
     pub fn states(&self) -> &[State]
-        ensures { result.now ≡ (system_of self.now).states }
+        ensures states { result.now ≡ self.now.states }
+        ensures kept { Kept self.now }
     {
-        self.states.as_slice()
+        &self.states
     }
 
+    /// The links, in the order of their numbers.
     pub fn links(&self) -> &[Link]
-        ensures { result.now ≡ (system_of self.now).links }
+        ensures links { result.now ≡ self.now.links }
+        ensures kept { Kept self.now }
     {
-        self.links.as_slice()
+        &self.links
     }
 
     /// Forgets all states and links, and keeps the room.
     pub fn clear(&mut self)
-        ensures { system_of self.new ≡ no_system }
+        ensures { self.new ≡ no_system }
     {
         self.links.clear();
         self.states.clear();
     }
 
+    // A state and a link are added by two functions of one shape, since they check different things, in orders of their own.
+
     /// A new state, whose number is the answer.
     pub fn add_state(&mut self, state: State) -> Result<u16, Refusal>
-        ensures answer { result ≡ state_answer (system_of self.old) state }
-        ensures after { system_of self.new ≡ afterwards result (system_of self.old) (with_state (system_of self.old) state) }
+        ensures answer { result ≡ state_answer self.old state }
+        ensures after { self.new ≡ afterwards result self.old (with_state self.old state) }
     {
         let number = self.states.len();
         if number >= MAX_STATES as usize {
@@ -48,14 +56,14 @@ impl Chart {
         if state.sort > 3 {
             return Err(Refusal::BadSort);
         }
-        self.states.push_reserved(state);
+        self.states.push(state);
         Ok(number as u16)
     }
 
     /// A new link, whose number is the answer.
     pub fn add_link(&mut self, link: Link) -> Result<u16, Refusal>
-        ensures answer { result ≡ link_answer (system_of self.old) link }
-        ensures after { system_of self.new ≡ afterwards result (system_of self.old) (with_link (system_of self.old) link) }
+        ensures answer { result ≡ link_answer self.old link }
+        ensures after { self.new ≡ afterwards result self.old (with_link self.old link) }
     {
         let size = self.states.len();
         let number = self.links.len();
@@ -71,7 +79,7 @@ impl Chart {
         if link.target as usize >= size {
             return Err(Refusal::NoSuchNumber);
         }
-        self.links.push_reserved(link);
+        self.links.push(link);
         Ok(number as u16)
     }
 }

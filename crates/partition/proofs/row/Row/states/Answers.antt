@@ -7,8 +7,8 @@ pub returns : goal.returns
 returns c =
     let r = c.args.self.now in
     let b = c.args.b in
-    let o = c.as_slice-order.ensures.value in
-    let t = ap (λ z. stretch_at z b) c.as_slice.ensures.value in
+    let o = c.deref-2.ensures in
+    let t = ap (λ z. stretch_at z b) c.deref.ensures in
     record {
       known = λ i l. (states_in r b c.requires _ _ o t i l).0;
       held = λ i l. (states_in r b c.requires _ _ o t i l).1;
