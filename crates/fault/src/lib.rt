@@ -5,7 +5,7 @@ ghost use Rattle.std.specs.Prelude.{◌≡◌, Some};
 ghost use Rattle.table.specs.declared.parts.Refusal.{Refusal};
 ghost use Rattle.fault.specs.declared.SectionFault.TheVariants.{Cut};
 ghost use Rattle.fault.specs.declared.TableFault.TheVariants.{States, Links};
-ghost use Rattle.fault.specs.Faults.{section_place, section_refusal, states_refusal, links_refusal, refusal_of, table_place, section_of, line_of};
+ghost use Rattle.fault.specs.Faults.{section_place, section_refusal, states_refusal, links_refusal, refusal_of, table_place, section_of, section_number, line_of};
 
 use std::fmt;
 use table::parts::Refusal;
@@ -66,6 +66,15 @@ pub enum Section {
     States = 1,
     Links = 2,
     End = 3,
+}
+
+impl Section {
+    /// The number by which users know it.
+    pub fn number(self) -> u8
+        ensures { result ≡ section_number self }
+    {
+        self as u8
+    }
 }
 
 impl<F> From<ByteFault> for SectionFault<F> {
@@ -189,7 +198,7 @@ impl fmt::Display for TableFault {
     fn fmt<W: fmt::Write>(&self, f: &mut fmt::Formatter<W>) -> fmt::Result {
         let number = self.refusal().number();
         let Place { offset, item } = self.place();
-        let section = self.section() as u8;
+        let section = self.section().number();
         write!(
             f,
             "refused {number} byte {offset} section {section} item {item}"

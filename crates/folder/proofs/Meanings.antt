@@ -11,8 +11,7 @@ use Rattle.theory.specs.Rounds.{number_in}
 use Rattle.theory.proofs.Kernels.{unique, same_number, same_count}
 use Rattle.settle.specs.Grouped.{Grouped}
 use Rattle.settle.proofs.Groupings.{number_in_lem}
-use Rattle.settle.specs.declared.refinement.Refinement.{Refinement}
-use Rattle.folder.specs.View.{Settlement, Sound, settlement_of}
+use Rattle.folder.specs.View.{Settlement, Sound}
 use Rattle.folder.specs.Calls.{when_settled, groups_of, CountMeans, GroupMeans}
 
 module _ (fig : Figure) (t : System) (groups : List ℕ) (count : ℕ) (nodes : List Node) (h : Grouped fig t groups count nodes) (g : ℕ → ℕ) (s : Settled fig t g) where
@@ -40,8 +39,3 @@ group_means fig t x (Some s) r f h n e g q = elim (cases_lt x (size t)) [
       absurd (both_ways true (cc) refl)
 ]
 group_means fig t x None r f h n e g q = absurd (both_ways true (cc) refl)
-
--- the number of groups that a table keeps is the one that it shows
-pub groups_back : (o : Option ℕ) (f : Refinement) → o ≡ groups_of (settlement_of o f)
-groups_back (Some n) f = refl
-groups_back None f = refl

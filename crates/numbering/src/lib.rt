@@ -4,7 +4,7 @@
 ghost use Rattle.std.specs.Prelude.{◌≡◌, ◌<◌, ◌≤◌, ◌∷◌, ◌++◌, [], length, position};
 ghost use Rattle.std.specs.List.{AllWithin};
 ghost use Rattle.table.specs.Numbering.{group_count, group_numbers};
-ghost use Rattle.numbering.specs.Blocks.{at, number_at, given, numbers_after, next_after};
+ghost use Rattle.numbering.specs.Blocks.{Numbered, at, number_at, given, numbers_after, next_after};
 ghost use Rattle.numbering.specs.Kinds.{same_kind, Kinds};
 
 use table::parts::{PerNode, PerState, State};
@@ -23,6 +23,17 @@ pub fn number_groups(
 {
     numbers.fill(2048, None);
     groups.clear();
+    number_all(blocks, numbers, groups)
+}
+
+// Numbers the states in order, where no block has a number yet, and answers how many numbers were given.
+fn number_all(blocks: &[u16], numbers: &mut PerNode<Option<u16>>, groups: &mut PerState<u16>) -> u16
+    requires few { length blocks.now ≤ 1024 }
+    requires low { AllWithin (λ b. b < 2048) blocks.now 0 (length blocks.now) }
+    requires start { Numbered (at blocks.now) 0 numbers.old 0 groups.old }
+    ensures groups { groups.new ≡ group_numbers (at blocks.now) (length blocks.now) }
+    ensures count { result ≡ group_count (at blocks.now) (length blocks.now) }
+{
     let mut next = 0;
     for block in blocks {
         next = number_state(*block, next, numbers, groups);

@@ -104,3 +104,23 @@ impl<T, const N: usize> DerefSliceMut for Room<T, N> {
         self.items.as_mut_slice()
     }
 }
+
+#[cfg(test)]
+mod tests {
+    use super::Room;
+    use std::test::Fail;
+
+    #[test]
+    fn reserved_once_and_filled(rt: HostRuntime) -> Result<(), Fail> {
+        let mut room: Room<u16, 3> = Room::reserve(rt.alloc())?;
+        assert_eq!(rt; room.len(), 0);
+        room.fill(2, 7);
+        room.push(9);
+        let items = room.into_vec();
+        assert_eq!(rt; items.len(), 3);
+        let again: Room<u16, 3> = Room::from_vec(items);
+        assert_eq!(rt; again.len(), 3);
+        assert_eq!(rt; again[2], 9);
+        Ok(())
+    }
+}

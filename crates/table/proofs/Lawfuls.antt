@@ -1,6 +1,6 @@
--- What a chart keeps is lawful.
+-- What a chart keeps is lawful, and no more than a table can hold.
 use Rattle.std.proofs.ByRecursion.{all_from_every}
-use Rattle.table.specs.System.{System, Lawful, LawfulState, LawfulLink, size}
+use Rattle.table.specs.System.{System, Lawful, LawfulState, LawfulLink, Small, size}
 use Rattle.table.specs.Shape.{Kept}
 
 module _ (t : System) (k : Kept t) where
@@ -14,3 +14,6 @@ module _ (t : System) (k : Kept t) where
       target = k.targets i d low lt;
     });
   }
+
+  pub kept_small : Small t
+  kept_small = record { states = k.few_states; links = k.few_links }

@@ -1,5 +1,5 @@
 -- Text that is laid over a lent buffer.
-use Rattle.std.specs.Prelude.{◌≡◌, ℕ, suc, ◌+◌, ◌-◌, cond, List, [], ◌∷◌, ◌++◌, length, drop, Ok, Err, Result, OnOk, nat_le, slice_set}
+use Rattle.std.specs.Prelude.{◌≡◌, ℕ, suc, ◌+◌, ◌-◌, cond, List, [], ◌∷◌, ◌++◌, length, drop, Ok, Err, Result, nat_le, slice_set}
 use Rattle.table.specs.declared.parts.Refusal.{Refusal}
 use Rattle.table.specs.declared.parts.Refusal.TheVariants.{NoRoom}
 use Rattle.text.specs.declared.buffer.Buffer.{Buffer}
@@ -15,6 +15,10 @@ laid buffer at (b ∷ text) = laid (slice_set buffer at b) (suc at) text
 abbrev pub fits_at : ℕ → ℕ → ℕ → Result (Unit {0}) Refusal
 fits_at size at n = cond (nat_le n (size - at)) (Ok tt) (Err NoRoom)
 
+-- how far a writer is after n bytes, of which as many count as fit
+abbrev pub stands_at : ℕ → ℕ → ℕ → ℕ
+stands_at size at n = at + cond (nat_le n (size - at)) n (size - at)
+
 -- what is written, or else what was there
 abbrev pub by_mode : Mode → List ℕ → List ℕ → List ℕ
 by_mode Write new old = new
@@ -24,7 +28,7 @@ by_mode Measure new old = old
 pub record Wrote (before : Buffer) (text : List ℕ) (r : Result (Unit {0}) Refusal) (after : Buffer) : Type 0 where
   pub bytes : after.out.now ≡ by_mode before.mode (laid before.out.now before.len text) before.out.now
   pub answer : r ≡ fits_at (length before.out.now) before.len (length text)
-  pub counted : OnOk r (after.len ≡ before.len + length text)
+  pub counted : after.len ≡ stands_at (length before.out.now) before.len (length text)
   pub mode : after.mode ≡ before.mode
   pub same : after.out.ghost_name ≡ before.out.ghost_name
 

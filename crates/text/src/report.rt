@@ -3,7 +3,7 @@ ghost use Rattle.std.specs.Prelude.{◌≡◌, length};
 ghost use Rattle.text.specs.Buffer.{Wrote, fits_at, whole_answer, whole_buffer};
 ghost use Rattle.text.specs.Report.{head_of, line_of, lines_from, text_of};
 
-use crate::buffer::{Buffer, Mode};
+use crate::buffer::{Buffer, Mode, decimal_len};
 use table::parts::Refusal;
 
 /// What the report of a settled table tells: how many links there are, the groups of the states in order, and how many groups there
@@ -19,6 +19,10 @@ pub struct Report<'a> {
 fn put_line(out: &mut Buffer<'_>, state: usize, group: u16) -> Result<(), Refusal>
     ensures { Wrote out.old (line_of state group) result out.new }
 {
+    // what is only measured needs no digits
+    if out.measures() {
+        return out.count(decimal_len(state as u64) + decimal_len(u64::from(group)) + 2);
+    }
     out.put_number(state)?;
     out.put_number_after(b" ", group)?;
     out.put(b'\n')

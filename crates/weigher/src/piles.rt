@@ -81,3 +81,24 @@ pub fn pile_figure<P: Pile>(sort: u8, label: u8, weights: &[i32]) -> i64
 {
     weigh_list(&P::PILE, sort, label, weights)
 }
+
+/// The figure of a list under buttons.
+pub fn buttons_figure(sort: u8, label: u8, weights: &[i32]) -> i64
+    ensures { result ≡ buttons sort label weights.now }
+{
+    pile_figure::<Buttons>(sort, label, weights)
+}
+
+/// The figure of a list under timed.
+pub fn timed_figure(sort: u8, label: u8, weights: &[i32]) -> i64
+    ensures { result ≡ timed sort label weights.now }
+{
+    pile_figure::<Timed>(sort, label, weights)
+}
+
+/// The figure of a list under lots.
+pub fn lots_figure(sort: u8, label: u8, weights: &[i32]) -> i64
+    ensures { result ≡ lots sort label weights.now }
+{
+    pile_figure::<Lots>(sort, label, weights)
+}

@@ -4,20 +4,20 @@
 #[cfg(test)]
 mod tests {
     use weigher::layers::{ByLabel, LabelBelow};
-    use weigher::piles::{Buttons, Lots, Pile, Timed, pile_figure};
+    use weigher::piles::{Lots, Pile, Timed, buttons_figure, lots_figure, timed_figure};
     use weigher::plain::{Blind, Sum};
     use weigher::weigh_list;
 
     #[test]
     fn weighs_by_the_piles(rt: HostRuntime) {
-        assert_eq!(rt; pile_figure::<Buttons>(0, 0, &[]), 0);
-        assert_eq!(rt; pile_figure::<Buttons>(0, 0, &[0]), 1);
-        assert_eq!(rt; pile_figure::<Timed>(0, 47, &[3, 4]), 1);
-        assert_eq!(rt; pile_figure::<Timed>(0, 48, &[3, -4]), 3);
-        assert_eq!(rt; pile_figure::<Timed>(0, 48, &[]), 2_147_483_648);
-        assert_eq!(rt; pile_figure::<Lots>(0, 0, &[5, -5]), 1);
-        assert_eq!(rt; pile_figure::<Lots>(1, 0, &[5, -5]), 0);
-        assert_eq!(rt; pile_figure::<Lots>(3, 0, &[i32::MAX, 1]), 2_147_483_648);
+        assert_eq!(rt; buttons_figure(0, 0, &[]), 0);
+        assert_eq!(rt; buttons_figure(0, 0, &[0]), 1);
+        assert_eq!(rt; timed_figure(0, 47, &[3, 4]), 1);
+        assert_eq!(rt; timed_figure(0, 48, &[3, -4]), 3);
+        assert_eq!(rt; timed_figure(0, 48, &[]), 2_147_483_648);
+        assert_eq!(rt; lots_figure(0, 0, &[5, -5]), 1);
+        assert_eq!(rt; lots_figure(1, 0, &[5, -5]), 0);
+        assert_eq!(rt; lots_figure(3, 0, &[i32::MAX, 1]), 2_147_483_648);
     }
 
     #[test]

@@ -2,6 +2,7 @@
 ghost use Rattle.std.specs.Prelude.{◌≡◌, ◌≢◌, ◌<◌, ◌≤◌, length, None, Err, MatchResult, slice_index_or};
 ghost use Rattle.table.specs.declared.parts.Refusal.TheVariants.{NotSettled, NoSuchNumber};
 ghost use Rattle.table.specs.System.{Small};
+ghost use Rattle.table.specs.Shape.{Kept};
 ghost use Rattle.folder.specs.View.{Sound};
 ghost use Rattle.folder.specs.Calls.{Tally, CountMeans, group_answer, GroupMeans, node_answer, report_answer, report_buffer};
 
@@ -11,11 +12,11 @@ use text::report::Report;
 use weigher::Weigher;
 
 impl<W: Weigher> Table<W> {
-    /// How many states and links there are, how many groups, which an open table has not, and how many calls were refused.
-    pub fn count(&self) -> (usize, usize, Option<u16>, u32)
+    // The four numbers of `count`: what they mean is proved apart from how they are found.
+    fn tally(&self) -> (usize, usize, Option<u16>, u32)
         ensures answer { Tally self.now result.0 result.1 result.2 result.3 }
-        ensures meaning { CountMeans (W.figure self.now.pile) self.now.system result.2 }
         ensures sound { Sound (W.figure self.now.pile) self.now.system self.now.settlement }
+        ensures kept { Kept self.now.system }
     {
         (
             self.chart.states().len(),
@@ -23,6 +24,16 @@ impl<W: Weigher> Table<W> {
             self.groups,
             self.refusals,
         )
+    }
+
+    /// How many states and links there are, how many groups, which an open table has not, and how many calls were refused.
+    pub fn count(&self) -> (usize, usize, Option<u16>, u32)
+        ensures answer { Tally self.now result.0 result.1 result.2 result.3 }
+        ensures meaning { CountMeans (W.figure self.now.pile) self.now.system result.2 }
+        ensures sound { Sound (W.figure self.now.pile) self.now.system self.now.settlement }
+        ensures kept { Kept self.now.system }
+    {
+        self.tally()
     }
 
     /// The number of a state's group.

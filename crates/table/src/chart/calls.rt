@@ -48,6 +48,7 @@ impl Chart {
     pub fn add_state(&mut self, state: State) -> Result<u16, Refusal>
         ensures answer { result ≡ state_answer self.old state }
         ensures after { self.new ≡ afterwards result self.old (with_state self.old state) }
+        ensures kept { Kept self.new }
     {
         let number = self.states.len();
         if number >= MAX_STATES as usize {
@@ -64,6 +65,7 @@ impl Chart {
     pub fn add_link(&mut self, link: Link) -> Result<u16, Refusal>
         ensures answer { result ≡ link_answer self.old link }
         ensures after { self.new ≡ afterwards result self.old (with_link self.old link) }
+        ensures kept { Kept self.new }
     {
         let size = self.states.len();
         let number = self.links.len();
